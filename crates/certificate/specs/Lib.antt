@@ -1,0 +1,9 @@
+pub mod Faults
+pub mod Roles
+pub mod Der
+pub mod Placed
+pub mod Written
+pub mod Fields
+pub mod Certificates
+pub mod Envelopes
+pub mod Laws

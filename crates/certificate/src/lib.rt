@@ -1,0 +1,35 @@
+// Certificates: reading and writing the four kinds, in X.690 DER with one encoding each.
+mod body;
+mod bytes;
+mod envelope;
+mod fault;
+mod fields;
+mod finish;
+mod groups;
+mod ianda;
+mod id;
+mod judge;
+mod laws;
+mod numbers;
+mod parts;
+mod privilege;
+mod reader;
+mod reads;
+mod region;
+mod role;
+mod value;
+mod writer;
+mod writes;
+
+pub use fault::Fault;
+pub use fault::Refusal;
+pub use fields::Base;
+pub use fields::Header;
+pub use fields::Ianda;
+pub use fields::Id;
+pub use fields::Identity;
+pub use fields::IdentityPartialEq;
+pub use fields::Privilege;
+pub use fields::Reading;
+pub use laws::certificates_stand;
+pub use role::Role;

@@ -1,0 +1,57 @@
+// Privilege certificates, and authorisation certificates, which have the same form.
+ghost use mathlib.Core.Path.{_≡_};
+ghost use Prim.Native.Nat.{_≤_};
+ghost use Rattle.certificate.specs.Certificates.{Answers, Fills, privilege-of, message-of, certificate};
+ghost use Rattle.certificate.specs.Fields.{privilege-bytes};
+ghost use Rattle.certificate.specs.Written.{written};
+use crate::body::kinds::NumbersBody;
+use crate::body::read::certificate as read_certificate;
+use crate::fault::Refusal;
+use crate::fields::Privilege;
+use crate::fields::Reading;
+use crate::finish::certificate;
+use crate::finish::message;
+use crate::judge::judge;
+use crate::numbers::Numbers;
+use crate::parts::based;
+use crate::writer::Writer;
+use clearance::Clearance;
+
+impl<C: Clearance> Privilege<C> {
+    // What `bytes` say as a privilege or an authorisation certificate.
+    pub fn read(bytes: &[u8]) -> Result<Reading<'_, Privilege<C>>, Refusal>
+        ensures { λ r. ⌜ Answers (privilege-of (C·Clearance .ofNumber) (now (bytes .entry))) r ⌝ }
+    {
+        let x = read_certificate::<Numbers>(bytes)?;
+        let fields = judge::<C>(x.fields)?;
+        Ok(Reading {
+            fields,
+            message: x.message,
+            mark: x.mark,
+        })
+    }
+
+    fn body(self) -> Writer
+        ensures bytes { λ r. ⌜ written r ≡ privilege-bytes (C·Clearance .numberOf) self ⌝ }
+        ensures len { λ r. ⌜ r .len ≤ 83 ⌝ }
+    {
+        let mut w = based(self.header, self.base);
+        w.number(self.role.number());
+        w.number(self.clearance.number());
+        w
+    }
+
+    // Writes the message that a mark is made of into the start of `out`, and answers its length.
+    pub fn message(self, out: &mut [u8; 128]) -> usize
+        ensures { λ r. ⌜ Fills (message-of (privilege-bytes (C·Clearance .numberOf) self)) (now (out .entry)) (now (out .exit)) r ⌝ }
+    {
+        message(&self.body(), out)
+    }
+
+    // Writes the certificate with this mark into the start of `out`, and answers its length.
+    pub fn write(self, mark: [u8; 32], out: &mut [u8; 128]) -> usize
+        ensures { λ r. ⌜ Fills (certificate (privilege-bytes (C·Clearance .numberOf) self) mark) (now (out .entry)) (now (out .exit)) r ⌝ }
+    {
+        certificate(&self.body(), &mark, out)
+    }
+}
