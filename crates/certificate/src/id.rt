@@ -1,11 +1,12 @@
 // ID certificates.
 ghost use mathlib.Core.Path.{_≡_};
 ghost use Prim.Native.Nat.{_≤_};
-ghost use Rattle.certificate.specs.Certificates.{Answers, Fills, id-of, message-of, certificate};
+ghost use Rattle.certificate.specs.Certificates.{Answers, id-of};
 ghost use Rattle.certificate.specs.Fields.{id-bytes};
 ghost use Rattle.certificate.specs.Written.{written};
 use crate::body::kinds::IdBody;
 use crate::body::read::certificate as read_certificate;
+use crate::certificate::Certificate;
 use crate::fault::Refusal;
 use crate::fields::Id;
 use crate::fields::Reading;
@@ -30,18 +31,22 @@ impl Id {
         w.number(self.subject);
         w
     }
+}
 
-    // Writes the message that a mark is made of into the start of `out`, and answers its length.
-    pub fn message(self, out: &mut [u8; 128]) -> usize
-        ensures { λ r. ⌜ Fills (message-of (id-bytes self)) (now (out .entry)) (now (out .exit)) r ⌝ }
-    {
+pub impl Certificate for Id as IdCertificate {
+    ghost fieldBytes = { id-bytes };
+
+    ghost issuedBy = { λ x. x .header .identity .issuer };
+
+    fn issuer(self) -> u32 {
+        self.header.identity.issuer
+    }
+
+    fn message(self, out: &mut [u8; 128]) -> usize {
         message(&self.body(), out)
     }
 
-    // Writes the certificate with this mark into the start of `out`, and answers its length.
-    pub fn write(self, mark: [u8; 32], out: &mut [u8; 128]) -> usize
-        ensures { λ r. ⌜ Fills (certificate (id-bytes self) mark) (now (out .entry)) (now (out .exit)) r ⌝ }
-    {
+    fn write(self, mark: [u8; 32], out: &mut [u8; 128]) -> usize {
         certificate(&self.body(), &mark, out)
     }
 }

@@ -1,6 +1,7 @@
 // Certificates: reading and writing the four kinds, in X.690 DER with one encoding each.
 mod body;
 mod bytes;
+mod certificate;
 mod envelope;
 mod fault;
 mod fields;
@@ -21,6 +22,7 @@ mod value;
 mod writer;
 mod writes;
 
+pub use certificate::Certificate;
 pub use fault::Fault;
 pub use fault::Refusal;
 pub use fields::Base;
@@ -31,5 +33,8 @@ pub use fields::Identity;
 pub use fields::IdentityPartialEq;
 pub use fields::Privilege;
 pub use fields::Reading;
+pub use ianda::IandaCertificate;
+pub use id::IdCertificate;
 pub use laws::certificates_stand;
+pub use privilege::PrivilegeCertificate;
 pub use role::Role;

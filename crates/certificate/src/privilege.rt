@@ -1,11 +1,12 @@
 // Privilege certificates, and authorisation certificates, which have the same form.
 ghost use mathlib.Core.Path.{_≡_};
 ghost use Prim.Native.Nat.{_≤_};
-ghost use Rattle.certificate.specs.Certificates.{Answers, Fills, privilege-of, message-of, certificate};
+ghost use Rattle.certificate.specs.Certificates.{Answers, privilege-of};
 ghost use Rattle.certificate.specs.Fields.{privilege-bytes};
 ghost use Rattle.certificate.specs.Written.{written};
 use crate::body::kinds::NumbersBody;
 use crate::body::read::certificate as read_certificate;
+use crate::certificate::Certificate;
 use crate::fault::Refusal;
 use crate::fields::Privilege;
 use crate::fields::Reading;
@@ -40,18 +41,22 @@ impl<C: Clearance> Privilege<C> {
         w.number(self.clearance.number());
         w
     }
+}
 
-    // Writes the message that a mark is made of into the start of `out`, and answers its length.
-    pub fn message(self, out: &mut [u8; 128]) -> usize
-        ensures { λ r. ⌜ Fills (message-of (privilege-bytes (C·Clearance .numberOf) self)) (now (out .entry)) (now (out .exit)) r ⌝ }
-    {
+pub impl<C: Clearance> Certificate for Privilege<C> as PrivilegeCertificate {
+    ghost fieldBytes = { privilege-bytes (C·Clearance .numberOf) };
+
+    ghost issuedBy = { λ x. x .header .identity .issuer };
+
+    fn issuer(self) -> u32 {
+        self.header.identity.issuer
+    }
+
+    fn message(self, out: &mut [u8; 128]) -> usize {
         message(&self.body(), out)
     }
 
-    // Writes the certificate with this mark into the start of `out`, and answers its length.
-    pub fn write(self, mark: [u8; 32], out: &mut [u8; 128]) -> usize
-        ensures { λ r. ⌜ Fills (certificate (privilege-bytes (C·Clearance .numberOf) self) mark) (now (out .entry)) (now (out .exit)) r ⌝ }
-    {
+    fn write(self, mark: [u8; 32], out: &mut [u8; 128]) -> usize {
         certificate(&self.body(), &mark, out)
     }
 }

@@ -1,0 +1,71 @@
+// What a line says.
+mod calls;
+mod fields;
+mod options;
+
+use certificate::Base;
+use certificate::Header;
+use certificate::Ianda;
+use certificate::Id;
+
+// The two kinds of clearance.
+#[derive(Clone, Copy)]
+pub enum Kind {
+    Class,
+    Compartments,
+}
+
+// A part of a card.
+#[derive(Clone, Copy)]
+pub enum Place {
+    Id,
+    Privilege,
+    Ianda,
+    Authorisation,
+}
+
+// The fields of a privilege or authorisation certificate, role and clearance as the numbers that were written.
+#[derive(Clone, Copy)]
+pub struct Grant {
+    pub header: Header,
+    pub base: Base,
+    pub role: u32,
+    pub clearance: u32,
+}
+
+// A line that was understood. Texts are parts of the line.
+#[derive(Clone, Copy)]
+pub enum Command<'a> {
+    // A line with no word, or a remark.
+    Nothing,
+    Clearance(Kind),
+    // The words that give the keys.
+    Seal(&'a [u8]),
+    Card {
+        label: &'a [u8],
+        number: u32,
+        writable: bool,
+    },
+    // The bytes as hex digits.
+    Part {
+        label: &'a [u8],
+        place: Place,
+        hex: &'a [u8],
+    },
+    Id {
+        label: &'a [u8],
+        fields: Id,
+    },
+    Privilege {
+        label: &'a [u8],
+        place: Place,
+        fields: Grant,
+    },
+    Ianda {
+        label: &'a [u8],
+        fields: Ianda,
+    },
+    Show {
+        label: &'a [u8],
+    },
+}

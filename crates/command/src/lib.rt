@@ -1,0 +1,14 @@
+// What a line of a day script says.
+mod command;
+mod hex;
+mod keys;
+mod number;
+mod words;
+
+pub use command::Command;
+pub use command::Grant;
+pub use command::Kind;
+pub use command::Place;
+pub use hex::bytes_of;
+pub use keys::Key;
+pub use keys::calls::keys_of;
