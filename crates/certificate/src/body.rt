@@ -8,7 +8,7 @@ use crate::reader::Reader;
 pub mod kinds;
 pub mod read;
 
-pub trait Body: Copy {
+pub(crate) trait Body: Copy {
     // how the fields are read, at a place of the input
     ghost fieldsAt: { State → Result (Self × State) Refusal };
 

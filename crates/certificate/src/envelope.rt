@@ -4,7 +4,7 @@ use crate::region::Region;
 pub mod calls;
 
 #[derive(Clone, Copy)]
-pub struct Envelope<'a> {
+pub(crate) struct Envelope<'a> {
     pub message: &'a [u8],
     pub body: Region<'a>,
     pub rest: Region<'a>,

@@ -4,13 +4,13 @@ use crate::fields::Header;
 
 // A number, and the offset of its element.
 #[derive(Clone, Copy)]
-pub struct Placed {
+pub(crate) struct Placed {
     pub number: u32,
     pub at: usize,
 }
 
 #[derive(Clone, Copy)]
-pub struct Numbers {
+pub(crate) struct Numbers {
     pub header: Header,
     pub base: Base,
     pub role: Placed,

@@ -6,14 +6,14 @@ ghost use lib.ListN.{length, drop};
 use crate::region::Region;
 
 #[derive(Drop)]
-pub struct Reader<'a> {
+pub(crate) struct Reader<'a> {
     pub(crate) left: &'a [u8],
     pub(crate) at: usize,
     ghost short: { at + length (now left) < 2 ^ 63 },
 }
 
 impl<'a> Reader<'a> {
-    pub fn new(bytes: &'a [u8]) -> Reader<'a>
+    pub(crate) fn new(bytes: &'a [u8]) -> Reader<'a>
         ensures left { λ r. ⌜ now (r .left) ≡ now (bytes .entry) ⌝ }
         ensures at { λ r. ⌜ r .at ≡ 0 ⌝ }
     {
@@ -21,7 +21,7 @@ impl<'a> Reader<'a> {
     }
 
     // A reader of a part of the input.
-    pub fn inside(region: Region<'a>) -> Reader<'a>
+    pub(crate) fn inside(region: Region<'a>) -> Reader<'a>
         requires { ⌜ region .at + length (now (region .bytes)) < 2 ^ 63 ⌝ }
         ensures left { λ r. ⌜ now (r .left) ≡ now (region .entry .bytes) ⌝ }
         ensures at { λ r. ⌜ r .at ≡ region .entry .at ⌝ }
@@ -33,7 +33,7 @@ impl<'a> Reader<'a> {
     }
 
     // What is left to read.
-    pub fn left(&self) -> Region<'a>
+    pub(crate) fn left(&self) -> Region<'a>
         ensures bytes { λ r. ⌜ now (r .bytes) ≡ now (now (self .entry) .left) ⌝ }
         ensures at { λ r. ⌜ r .at ≡ now (self .entry) .at ⌝ }
         ensures short { λ r. ⌜ r .at + length (now (r .bytes)) < 2 ^ 63 ⌝ }

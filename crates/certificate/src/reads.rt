@@ -54,7 +54,7 @@ impl<'a> Reader<'a> {
     }
 
     // The INTEGER that comes next, if it is at most `max`.
-    pub fn integer(&mut self, max: u64) -> Result<u64, Refusal>
+    pub(crate) fn integer(&mut self, max: u64) -> Result<u64, Refusal>
         ensures { λ r. ⌜ Reads (placed (integer max)) (state (now (self .entry))) (state (now (self .exit))) r ⌝ }
     {
         let at = self.at;
@@ -70,7 +70,7 @@ impl<'a> Reader<'a> {
     }
 
     // A 32-bit INTEGER.
-    pub fn number(&mut self) -> Result<u32, Refusal>
+    pub(crate) fn number(&mut self) -> Result<u32, Refusal>
         ensures { λ r. ⌜ Reads number-at (state (now (self .entry))) (state (now (self .exit))) r ⌝ }
     {
         let n = self.integer(4294967295)?;
@@ -78,7 +78,7 @@ impl<'a> Reader<'a> {
     }
 
     // The OCTET STRING of 32 bytes that comes next.
-    pub fn octets(&mut self) -> Result<[u8; 32], Refusal>
+    pub(crate) fn octets(&mut self) -> Result<[u8; 32], Refusal>
         ensures { λ r. ⌜ Reads octets-at (state (now (self .entry))) (state (now (self .exit))) r ⌝ }
     {
         let at = self.at;
@@ -96,7 +96,7 @@ impl<'a> Reader<'a> {
     }
 
     // The contents of the SEQUENCE that comes next.
-    pub fn sequence(&mut self) -> Result<&'a [u8], Refusal>
+    pub(crate) fn sequence(&mut self) -> Result<&'a [u8], Refusal>
         ensures reads { λ r. ⌜ Cases r (λ c. sequence-at (state (now (self .entry))) ≡ Ok ((now c, now (self .entry) .at + 2), state (now (self .exit)))) (λ e. sequence-at (state (now (self .entry))) ≡ Err e) ⌝ }
         ensures small { λ r. ⌜ made r (λ c. length (now c) ≤ 127) ⌝ }
         ensures room { λ r. ⌜ made r (λ c. 2 + length (now c) ≤ length (now (now (self .entry) .left))) ⌝ }
@@ -107,7 +107,7 @@ impl<'a> Reader<'a> {
     }
 
     // Whether nothing is left.
-    pub fn end(&self) -> Result<(), Refusal>
+    pub(crate) fn end(&self) -> Result<(), Refusal>
         ensures { λ r. ⌜ Reads end-at (state (now (self .entry))) (state (now (self .entry))) r ⌝ }
     {
         if self.left.len() > 0 {

@@ -10,7 +10,7 @@ use crate::value::size;
 use crate::writer::Writer;
 
 impl Writer {
-    pub fn new() -> Writer
+    pub(crate) fn new() -> Writer
         ensures bytes { λ r. ⌜ written r ≡ [] ⌝ }
         ensures len { λ r. ⌜ r .len ≡ 0 ⌝ }
     {
@@ -44,7 +44,7 @@ impl Writer {
         }
     }
 
-    pub fn integer(&mut self, n: u64)
+    pub(crate) fn integer(&mut self, n: u64)
         requires { ⌜ now self .len + 2 + length (content n) ≤ 128 ⌝ }
         ensures bytes { λ _. ⌜ written (now (self .exit)) ≡ written (now (self .entry)) ++ encode-integer n ⌝ }
         ensures len { λ _. ⌜ now (self .exit) .len ≡ now (self .entry) .len + 2 + length (content n) ⌝ }
@@ -55,7 +55,7 @@ impl Writer {
     }
 
     // A 32-bit INTEGER: at most seven bytes.
-    pub fn number(&mut self, n: u32)
+    pub(crate) fn number(&mut self, n: u32)
         requires { ⌜ now self .len + 7 ≤ 128 ⌝ }
         ensures bytes { λ _. ⌜ written (now (self .exit)) ≡ written (now (self .entry)) ++ encode-integer n ⌝ }
         ensures len { λ _. ⌜ now (self .exit) .len ≤ now (self .entry) .len + 7 ⌝ }
@@ -64,7 +64,7 @@ impl Writer {
     }
 
     // An element of this tag, with its contents.
-    pub fn element(&mut self, tag: u8, contents: &[u8])
+    pub(crate) fn element(&mut self, tag: u8, contents: &[u8])
         requires room { ⌜ now self .len + 2 + length (now contents) ≤ 128 ⌝ }
         requires short { ⌜ length (now contents) ≤ 127 ⌝ }
         ensures bytes { λ _. ⌜ written (now (self .exit)) ≡ written (now (self .entry)) ++ wrap tag (now (contents .entry)) ⌝ }
@@ -78,7 +78,7 @@ impl Writer {
     }
 
     // What has been written.
-    pub fn bytes(&self) -> &[u8]
+    pub(crate) fn bytes(&self) -> &[u8]
         ensures value { λ r. ⌜ now r ≡ written (now (self .entry)) ⌝ }
         ensures len { λ r. ⌜ length (now r) ≡ now (self .entry) .len ⌝ }
     {

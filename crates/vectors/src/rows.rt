@@ -8,7 +8,7 @@ pub trait Table {
 }
 
 // Whether a table has so many rows, and each is right.
-pub fn every<T: Table>(table: &str, count: usize) -> Result<(), Fail> {
+pub(crate) fn every<T: Table>(table: &str, count: usize) -> Result<(), Fail> {
     let mut seen = 0usize;
     for text in table.lines() {
         T::row(text).note(text)?;
@@ -28,18 +28,18 @@ pub struct Bytes {
 }
 
 impl Bytes {
-    pub fn slice(&self) -> &[u8] {
+    pub(crate) fn slice(&self) -> &[u8] {
         between(&self.all, 0, self.len)
     }
 
     // The last 32 bytes before the last `after` ones.
-    pub fn last(&self, after: usize) -> &[u8] {
+    pub(crate) fn last(&self, after: usize) -> &[u8] {
         let end = self.len.saturating_sub(after);
         between(&self.all, end.saturating_sub(32), end)
     }
 
     // The same bytes with one bit of one of them flipped.
-    pub fn flipped(&self, at: usize, bit: u32) -> Bytes {
+    pub(crate) fn flipped(&self, at: usize, bit: u32) -> Bytes {
         let mut bytes = *self;
         if at < ROOM && bit < 8 {
             bytes.all[at] ^= 1 << bit;
@@ -63,7 +63,7 @@ pub struct Row<'a> {
 }
 
 impl<'a> Row<'a> {
-    pub fn new(text: &'a str) -> Row<'a> {
+    pub(crate) fn new(text: &'a str) -> Row<'a> {
         Row {
             text: text.as_bytes(),
             at: 0,
@@ -71,7 +71,7 @@ impl<'a> Row<'a> {
     }
 
     // The next number in decimal digits; 0 where a colon comes first. Other characters before it are passed over.
-    pub fn number(&mut self) -> u32 {
+    pub(crate) fn number(&mut self) -> u32 {
         let text = self.text;
         let mut n = 0u32;
         let mut begun = false;
@@ -90,7 +90,7 @@ impl<'a> Row<'a> {
     }
 
     // The next nine numbers.
-    pub fn numbers(&mut self) -> [u32; 9] {
+    pub(crate) fn numbers(&mut self) -> [u32; 9] {
         let mut all = [0; 9];
         for i in 0..9 {
             all[i] = self.number();
@@ -99,7 +99,7 @@ impl<'a> Row<'a> {
     }
 
     // The bytes that the hex digits left stand for, two digits to a byte; `*` stands for the 32 bytes 00 01 .. 1f. Other characters are passed over.
-    pub fn bytes(&self) -> Bytes {
+    pub(crate) fn bytes(&self) -> Bytes {
         let text = self.text;
         let mut bytes = Bytes {
             all: [0; ROOM],
@@ -129,7 +129,7 @@ impl<'a> Row<'a> {
 }
 
 // The part of `bytes` from `from` up to `to`; empty where it would leave them.
-pub fn between(bytes: &[u8], from: usize, to: usize) -> &[u8] {
+pub(crate) fn between(bytes: &[u8], from: usize, to: usize) -> &[u8] {
     if from <= to && to <= bytes.len() {
         &bytes[from..to]
     } else {
@@ -138,7 +138,7 @@ pub fn between(bytes: &[u8], from: usize, to: usize) -> &[u8] {
 }
 
 // The first 32 bytes, with zeros in place of those that are not there.
-pub fn array(bytes: &[u8]) -> [u8; 32] {
+pub(crate) fn array(bytes: &[u8]) -> [u8; 32] {
     let mut all = [0; 32];
     for i in 0..32 {
         if i < bytes.len() {
@@ -158,6 +158,6 @@ fn digit(c: u8) -> Option<u8> {
 }
 
 // The bytes of a text that holds no numbers before them.
-pub fn hex(text: &str) -> Bytes {
+pub(crate) fn hex(text: &str) -> Bytes {
     Row::new(text).bytes()
 }

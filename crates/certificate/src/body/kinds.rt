@@ -10,7 +10,7 @@ use crate::groups::placed;
 use crate::numbers::Numbers;
 use crate::reader::Reader;
 
-pub impl Body for Id as IdBody {
+pub(crate) impl Body for Id as IdBody {
     ghost fieldsAt = { id-at };
 
     fn fields(r: &mut Reader) -> Result<Self, Refusal> {
@@ -20,7 +20,7 @@ pub impl Body for Id as IdBody {
     }
 }
 
-pub impl Body for Ianda as IandaBody {
+pub(crate) impl Body for Ianda as IandaBody {
     ghost fieldsAt = { ianda-at };
 
     fn fields(r: &mut Reader) -> Result<Self, Refusal> {
@@ -35,7 +35,7 @@ pub impl Body for Ianda as IandaBody {
     }
 }
 
-pub impl Body for Numbers as NumbersBody {
+pub(crate) impl Body for Numbers as NumbersBody {
     ghost fieldsAt = { numbers-at };
 
     fn fields(r: &mut Reader) -> Result<Self, Refusal> {
