@@ -11,10 +11,10 @@ use Rattle.certificate.specs.declared.fields.Id.{Id as IdFields}
 use Rattle.command.specs.declared.command.Grant.{Grant}
 use Rattle.command.specs.declared.command.Place.{Place}
 use Rattle.command.specs.declared.command.Place.the-variants.{Id, Privilege, Ianda, Authorisation}
-use Rattle.account.specs.declared.show.Reason.{Reason}
-use Rattle.account.specs.declared.show.Reason.the-variants.{NotUnderstood, NoSuchCard, CardNamedBefore, NoClearanceKind, BadRoleOrClearance, Declined25}
-use Rattle.account.specs.declared.show.Verdict.{Verdict}
-use Rattle.account.specs.declared.show.Verdict.the-variants.{Good, Bad, Unchecked}
+use Rattle.account.specs.declared.reason.Reason.{Reason}
+use Rattle.account.specs.declared.reason.Reason.the-variants.{NotUnderstood, NoSuchCard, CardNamedBefore, NoClearanceKind, BadRoleOrClearance, Declined25}
+use Rattle.account.specs.declared.verdict.Verdict.{Verdict}
+use Rattle.account.specs.declared.verdict.Verdict.the-variants.{Good, Bad, Unchecked}
 use Rattle.std.specs.Written.{decimal}
 
 -- the end of a line

@@ -1,7 +1,7 @@
 // The lines of an account, each put behind what `out` has gathered so far.
 ghost use mathlib.Core.List.{_++_};
 ghost use mathlib.Core.Path.{_≡_};
-ghost use Rattle.account.specs.Texts.{headerText, baseText, placeText, verdictText, markText, stateText, reasonText};
+ghost use Rattle.account.specs.Texts.{headerText, baseText, placeText, markText, stateText};
 ghost use Rattle.account.specs.Texts.{idLine, grantLine, iandaLine, faultLine, noKindLine, cardLine, refusedLine};
 ghost use Rattle.std.specs.Of.Vec.{vec-items};
 ghost use Rattle.std.specs.Vec.{made};
@@ -9,6 +9,8 @@ use crate::out::field;
 use crate::out::hex;
 use crate::out::number;
 use crate::out::text;
+use crate::reason::Reason;
+use crate::verdict::Verdict;
 use certificate::Base;
 use certificate::Header;
 use certificate::Ianda;
@@ -26,52 +28,6 @@ fn title(place: Place) -> &'static [u8]
         Place::Privilege => b"part 2 privilege:",
         Place::Ianda => b"part 3 ianda:",
         Place::Authorisation => b"part 4 authorisation:",
-    }
-}
-
-// What a certificate's mark was found to be.
-#[derive(Clone, Copy)]
-pub enum Verdict {
-    Good,
-    Bad,
-    Unchecked,
-}
-
-impl Verdict {
-    fn name(self) -> &'static [u8]
-        ensures { λ r. ⌜ now r ≡ verdictText self ⌝ }
-    {
-        match self {
-            Verdict::Good => b"good",
-            Verdict::Bad => b"bad",
-            Verdict::Unchecked => b"unchecked",
-        }
-    }
-}
-
-// Why a line of the script was not carried out.
-#[derive(Clone, Copy)]
-pub enum Reason {
-    NotUnderstood,
-    NoSuchCard,
-    CardNamedBefore,
-    NoClearanceKind,
-    BadRoleOrClearance,
-    Declined25,
-}
-
-impl Reason {
-    fn name(self) -> &'static [u8]
-        ensures { λ r. ⌜ now r ≡ reasonText self ⌝ }
-    {
-        match self {
-            Reason::NotUnderstood => b"not understood",
-            Reason::NoSuchCard => b"no such card",
-            Reason::CardNamedBefore => b"card named before",
-            Reason::NoClearanceKind => b"no clearance kind",
-            Reason::BadRoleOrClearance => b"bad role or clearance",
-            Reason::Declined25 => b"declined 25",
-        }
     }
 }
 

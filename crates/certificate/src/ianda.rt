@@ -8,11 +8,11 @@ use crate::body::kinds::IandaBody;
 use crate::body::read::certificate as read_certificate;
 use crate::certificate::Certificate;
 use crate::fault::Refusal;
+use crate::field_writing::based;
 use crate::fields::Ianda;
 use crate::fields::Reading;
 use crate::finish::certificate;
 use crate::finish::message;
-use crate::parts::based;
 use crate::writer::Writer;
 
 impl Ianda {

@@ -8,11 +8,11 @@ use crate::body::kinds::IdBody;
 use crate::body::read::certificate as read_certificate;
 use crate::certificate::Certificate;
 use crate::fault::Refusal;
+use crate::field_writing::headed;
 use crate::fields::Id;
 use crate::fields::Reading;
 use crate::finish::certificate;
 use crate::finish::message;
-use crate::parts::headed;
 use crate::writer::Writer;
 
 impl Id {

@@ -8,13 +8,13 @@ use crate::body::kinds::NumbersBody;
 use crate::body::read::certificate as read_certificate;
 use crate::certificate::Certificate;
 use crate::fault::Refusal;
+use crate::field_writing::based;
 use crate::fields::Privilege;
 use crate::fields::Reading;
 use crate::finish::certificate;
 use crate::finish::message;
 use crate::judge::judge;
 use crate::numbers::Numbers;
-use crate::parts::based;
 use crate::writer::Writer;
 use clearance::Clearance;
 

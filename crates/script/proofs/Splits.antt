@@ -12,8 +12,8 @@ use Rattle.std.specs.shelf.Lists.{leading}
 use Rattle.std.proofs.shelf.Lists.{append-assoc, append-nil, length-append, drop-all}
 use Rattle.std.proofs.shelf.Tests.{cases-bool}
 use Rattle.command.specs.Commands.{lineOf}
-use Rattle.script.specs.Lines.{heldAfter, printedBy}
-use Rattle.script.specs.Sessions.{Held}
+use Rattle.script.specs.Lines.{sessionAfter, printedBy}
+use Rattle.script.specs.Sessions.{SessionView}
 use Rattle.script.specs.Replays.{notNewline, lastLine, linesAfter, linesOf, printedFrom}
 
 -- the first line, where the bytes of w were read before
@@ -34,20 +34,20 @@ lines-first w (b ∷ xs) h =
     ]
 
 -- one line more is printed
-pub printed-more : (s : Held) (n : ℕ) (xs : List ℕ) → 0 < length xs
+pub printed-more : (s : SessionView) (n : ℕ) (xs : List ℕ) → 0 < length xs
     → printedFrom s n (linesOf xs)
-    ≡ printedBy s n (lineOf (take (leading notNewline xs) xs)) ++ printedFrom (heldAfter s (lineOf (take (leading notNewline xs) xs))) (n + 1) (linesOf (drop (leading notNewline xs + 1) xs))
+    ≡ printedBy s n (lineOf (take (leading notNewline xs) xs)) ++ printedFrom (sessionAfter s (lineOf (take (leading notNewline xs) xs))) (n + 1) (linesOf (drop (leading notNewline xs + 1) xs))
 unfolding linesOf printedFrom
 printed-more s n xs h = ap (printedFrom s n) (lines-first [] xs (omega arith))
 
-pub printed-none : (s : Held) (n : ℕ) (xs : List ℕ) → length xs ≡ 0 → printedFrom s n (linesOf xs) ≡ []
+pub printed-none : (s : SessionView) (n : ℕ) (xs : List ℕ) → length xs ≡ 0 → printedFrom s n (linesOf xs) ≡ []
 unfolding linesOf linesAfter lastLine printedFrom
 printed-none s n [] h = refl
 printed-none s n (b ∷ xs) h = absurd (omega arith)
 
 -- a loop's step: one line is carried out
-pub replay-step : (s s′ : Held) (n e : ℕ) (out out′ xs line rest all : List ℕ) → 0 < length xs → e ≡ leading notNewline xs → line ≡ take e xs → rest ≡ drop (e + 1) xs
-    → s′ ≡ heldAfter s (lineOf line) → out′ ≡ out ++ printedBy s (n + 1) (lineOf line) → out ++ printedFrom s (n + 1) (linesOf xs) ≡ all
+pub replay-step : (s s′ : SessionView) (n e : ℕ) (out out′ xs line rest all : List ℕ) → 0 < length xs → e ≡ leading notNewline xs → line ≡ take e xs → rest ≡ drop (e + 1) xs
+    → s′ ≡ sessionAfter s (lineOf line) → out′ ≡ out ++ printedBy s (n + 1) (lineOf line) → out ++ printedFrom s (n + 1) (linesOf xs) ≡ all
     → out′ ++ printedFrom s′ (n + 1 + 1) (linesOf rest) ≡ all
 replay-step s s′ n e out out′ xs line rest all h count is-line is-rest session printed inv =
     rw (printed, session, is-rest, is-line, count)

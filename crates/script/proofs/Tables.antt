@@ -12,40 +12,40 @@ use Rattle.std.specs.declared.option.Option.{Option}
 use Rattle.std.specs.declared.option.Option.the-variants.{Some, None}
 use Rattle.command.specs.declared.command.Place.{Place}
 use Rattle.script.specs.declared.card.Card.{Card}
-use Rattle.script.specs.Cards.{Carded, carded, withPart, cardNamed, partPut}
+use Rattle.script.specs.Cards.{CardView, cardView, withPart, cardNamed, partPut}
 use Rattle.script.specs.Places.{At}
 
 -- the labels before i are others
 abbrev pub Others : List Card → List ℕ → ℕ → Type 0
-Others cs label i = (k : ℕ) (d : Card) → k < i → sameBytes (carded (getD cs k d) .label) label ≡ false
+Others cs label i = (k : ℕ) (d : Card) → k < i → sameBytes (cardView (getD cs k d) .label) label ≡ false
 
-pub named-at : (cs : List Card) (label : List ℕ) (i : ℕ) (d : Card) → i < length cs → Others cs label i → sameBytes (carded (getD cs i d) .label) label ≡ true
-    → cardNamed (map carded cs) label ≡ Some (carded (getD cs i d))
+pub named-at : (cs : List Card) (label : List ℕ) (i : ℕ) (d : Card) → i < length cs → Others cs label i → sameBytes (cardView (getD cs i d) .label) label ≡ true
+    → cardNamed (map cardView cs) label ≡ Some (cardView (getD cs i d))
 unfolding cardNamed
 named-at [] label i d h o e = absurd (omega arith)
 named-at (c ∷ cs) label zero d h o e = rw e
 named-at (c ∷ cs) label (suc i) d h o e = rw (o 0 d (omega arith)) (named-at cs label i d (omega arith) (λ k b l. o (suc k) b (omega arith)) e)
 
 pub put-at : (cs : List Card) (label : List ℕ) (i : ℕ) (d : Card) (p : Place) (bytes : List ℕ) → i < length cs → Others cs label i
-    → sameBytes (carded (getD cs i d) .label) label ≡ true
-    → partPut (map carded cs) label p bytes ≡ set (map carded cs) i (withPart (carded (getD cs i d)) p bytes)
+    → sameBytes (cardView (getD cs i d) .label) label ≡ true
+    → partPut (map cardView cs) label p bytes ≡ set (map cardView cs) i (withPart (cardView (getD cs i d)) p bytes)
 unfolding partPut
 put-at [] label i d p bytes h o e = absurd (omega arith)
 put-at (c ∷ cs) label zero d p bytes h o e = rw e
 put-at (c ∷ cs) label (suc i) d p bytes h o e =
-    rw (o 0 d (omega arith)) (ap (λ z. carded c ∷ z) (put-at cs label i d p bytes (omega arith) (λ k b l. o (suc k) b (omega arith)) e))
+    rw (o 0 d (omega arith)) (ap (λ z. cardView c ∷ z) (put-at cs label i d p bytes (omega arith) (λ k b l. o (suc k) b (omega arith)) e))
 
-pub named-none : (cs : List Card) (label : List ℕ) → Others cs label (length cs) → cardNamed (map carded cs) label ≡ None
+pub named-none : (cs : List Card) (label : List ℕ) → Others cs label (length cs) → cardNamed (map cardView cs) label ≡ None
 unfolding cardNamed
 named-none [] label o = refl
 named-none (c ∷ cs) label o = rw (o 0 c (omega arith)) (named-none cs label (λ k b l. o (suc k) b (omega arith)))
 
 -- what was found at a place holds whatever a read past the end would give
-pub here-any : (cs : List Card) (label : List ℕ) (i : ℕ) (e : Card) (b : Bool) → i < length cs → sameBytes (carded (getD cs i e) .label) label ≡ b
-    → (d : Card) → sameBytes (carded (getD cs i d) .label) label ≡ b
-here-any cs label i e b h is d = ap (λ c. sameBytes (carded c .label) label) (getD-default cs i d e h) ∙ is
+pub here-any : (cs : List Card) (label : List ℕ) (i : ℕ) (e : Card) (b : Bool) → i < length cs → sameBytes (cardView (getD cs i e) .label) label ≡ b
+    → (d : Card) → sameBytes (cardView (getD cs i d) .label) label ≡ b
+here-any cs label i e b h is d = ap (λ c. sameBytes (cardView c .label) label) (getD-default cs i d e h) ∙ is
 
-pub others-more : (cs : List Card) (label : List ℕ) (i : ℕ) → Others cs label i → ((d : Card) → sameBytes (carded (getD cs i d) .label) label ≡ false) → Others cs label (i + 1)
+pub others-more : (cs : List Card) (label : List ℕ) (i : ℕ) → Others cs label i → ((d : Card) → sameBytes (cardView (getD cs i d) .label) label ≡ false) → Others cs label (i + 1)
 others-more cs label i o here =
-    let all = below-more (λ k. (d : Card) → sameBytes (carded (getD cs k d) .label) label ≡ false) i (λ k h d. o k d h) here in
+    let all = below-more (λ k. (d : Card) → sameBytes (cardView (getD cs k d) .label) label ≡ false) i (λ k h d. o k d h) here in
     λ k d h. all k h d

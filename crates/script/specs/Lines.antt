@@ -3,18 +3,18 @@ use mathlib.Core.List.{List, [], _++_}
 use Prim.Native.Nat.{ℕ}
 use Rattle.std.specs.declared.option.Option.{Option}
 use Rattle.std.specs.declared.option.Option.the-variants.{Some, None}
-use Rattle.account.specs.declared.show.Reason.{Reason}
-use Rattle.account.specs.declared.show.Reason.the-variants.{NotUnderstood}
+use Rattle.account.specs.declared.reason.Reason.{Reason}
+use Rattle.account.specs.declared.reason.Reason.the-variants.{NotUnderstood}
 use Rattle.account.specs.Texts.{refusedLine}
 use Rattle.certificate.specs.Fields.{id-bytes, ianda-bytes}
 use Rattle.command.specs.declared.command.Place.the-variants as place
 use Rattle.command.specs.Commands.{Line, nothing, clearance, seal, card, part, id, privilege, ianda, shown, lineOf}
 use Rattle.script.specs.Cards.{cardNamed}
 use Rattle.script.specs.Issues.{sealedBody}
-use Rattle.script.specs.Sessions.{Held, Step, cardStep, putStep, partStep, grantStep, onCard, shownText}
+use Rattle.script.specs.Sessions.{SessionView, Step, cardStep, putStep, partStep, grantStep, onCard, shownText}
 
 -- what a line that was understood leads to
-unfoldable pub carriedOut : Held → Line → Step
+unfoldable pub carriedOut : SessionView → Line → Step
 carriedOut s nothing = (s, None)
 carriedOut s (clearance k) = (record { kind = Some k; keys = s .keys; cards = s .cards }, None)
 carriedOut s (seal ks) = (record { kind = s .kind; keys = ks; cards = s .cards }, None)
@@ -26,7 +26,7 @@ carriedOut s (ianda label x) = putStep s label place.Ianda (sealedBody (s .keys)
 carriedOut s (shown label) = onCard s (cardNamed (s .cards) label) (s, None)
 
 -- what it prints: only `show` prints an account
-unfoldable pub accountOf : Held → Line → List ℕ
+unfoldable pub accountOf : SessionView → Line → List ℕ
 accountOf s nothing = []
 accountOf s (clearance k) = []
 accountOf s (seal ks) = []
@@ -43,11 +43,11 @@ reasonLine n None = []
 reasonLine n (Some why) = refusedLine n why
 
 -- the session after a line
-unfoldable pub heldAfter : Held → Option Line → Held
-heldAfter s None = s
-heldAfter s (Some line) = carriedOut s line .0
+unfoldable pub sessionAfter : SessionView → Option Line → SessionView
+sessionAfter s None = s
+sessionAfter s (Some line) = carriedOut s line .0
 
 -- what the n-th line prints
-unfoldable pub printedBy : Held → ℕ → Option Line → List ℕ
+unfoldable pub printedBy : SessionView → ℕ → Option Line → List ℕ
 printedBy s n None = refusedLine n NotUnderstood
 printedBy s n (Some line) = accountOf s line ++ reasonLine n (carriedOut s line .1)

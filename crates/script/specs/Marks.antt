@@ -8,8 +8,8 @@ use Rattle.std.specs.Options.{isSome}
 use Rattle.std.specs.shelf.Text.{sameBytes}
 use Rattle.std.specs.declared.option.Option.{Option}
 use Rattle.std.specs.declared.option.Option.the-variants.{Some, None}
-use Rattle.account.specs.declared.show.Verdict.{Verdict}
-use Rattle.account.specs.declared.show.Verdict.the-variants.{Good, Bad, Unchecked}
+use Rattle.account.specs.declared.verdict.Verdict.{Verdict}
+use Rattle.account.specs.declared.verdict.Verdict.the-variants.{Good, Bad, Unchecked}
 use Rattle.command.specs.declared.keys.Key.{Key}
 use Rattle.sha256.specs.Mac.{hmac}
 

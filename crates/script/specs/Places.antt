@@ -6,11 +6,11 @@ use lib.ListN.{length, getD, set}
 use Rattle.std.specs.declared.option.Option.the-variants.{Some}
 use Rattle.command.specs.declared.command.Place.{Place}
 use Rattle.script.specs.declared.card.Card.{Card}
-use Rattle.script.specs.Cards.{Carded, carded, withPart, cardNamed, partPut}
+use Rattle.script.specs.Cards.{CardView, cardView, withPart, cardNamed, partPut}
 
 -- the card at place i is the first of the label, and a part put there is put into that card
 pub record At (cards : List Card) (label : List ℕ) (i : ℕ) : Type 0 where
   pub within : i < length cards
-  pub found : (c : Carded) × (cardNamed (map carded cards) label ≡ Some c)
-  pub card : (d : Card) → cardNamed (map carded cards) label ≡ Some (carded (getD cards i d))
-  pub put : (d : Card) (place : Place) (bytes : List ℕ) → partPut (map carded cards) label place bytes ≡ set (map carded cards) i (withPart (carded (getD cards i d)) place bytes)
+  pub found : (c : CardView) × (cardNamed (map cardView cards) label ≡ Some c)
+  pub card : (d : Card) → cardNamed (map cardView cards) label ≡ Some (cardView (getD cards i d))
+  pub put : (d : Card) (place : Place) (bytes : List ℕ) → partPut (map cardView cards) label place bytes ≡ set (map cardView cards) i (withPart (cardView (getD cards i d)) place bytes)

@@ -4,8 +4,8 @@ use mathlib.Core.List.{List, [], _∷_, _++_}
 use Prim.Native.Nat.{ℕ, _+_}
 use lib.Dec.{eqb}
 use Rattle.command.specs.Commands.{lineOf}
-use Rattle.script.specs.Lines.{heldAfter, printedBy}
-use Rattle.script.specs.Sessions.{Held, fresh}
+use Rattle.script.specs.Lines.{sessionAfter, printedBy}
+use Rattle.script.specs.Sessions.{SessionView, fresh}
 
 -- any byte but a newline
 unfoldable pub notNewline : ℕ → Bool
@@ -26,9 +26,9 @@ unfoldable pub linesOf : List ℕ → List (List ℕ)
 linesOf text = linesAfter [] text
 
 -- what the lines print one after another, the first of them being the n-th
-unfoldable pub printedFrom : Held → ℕ → List (List ℕ) → List ℕ
+unfoldable pub printedFrom : SessionView → ℕ → List (List ℕ) → List ℕ
 printedFrom s n [] = []
-printedFrom s n (line ∷ lines) = printedBy s n (lineOf line) ++ printedFrom (heldAfter s (lineOf line)) (n + 1) lines
+printedFrom s n (line ∷ lines) = printedBy s n (lineOf line) ++ printedFrom (sessionAfter s (lineOf line)) (n + 1) lines
 
 -- what a script prints
 unfoldable pub replayed : List ℕ → List ℕ

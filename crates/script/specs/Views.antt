@@ -5,7 +5,7 @@ use Rattle.std.specs.declared.option.Option.{Option}
 use Rattle.std.specs.declared.option.Option.the-variants.{Some, None}
 use Rattle.std.specs.declared.result.Result.{Result}
 use Rattle.std.specs.declared.result.Result.the-variants.{Ok, Err}
-use Rattle.account.specs.declared.show.Verdict.{Verdict}
+use Rattle.account.specs.declared.verdict.Verdict.{Verdict}
 use Rattle.account.specs.Texts.{idLine, iandaLine, grantLine, faultLine, noKindLine, cardLine}
 use Rattle.certificate.specs.declared.fault.Refusal.{Refusal}
 use Rattle.certificate.specs.declared.fields.Header.{Header}
@@ -22,7 +22,7 @@ use Rattle.command.specs.declared.command.Kind.the-variants.{Class, Compartment
 use Rattle.command.specs.declared.command.Place.{Place}
 use Rattle.command.specs.declared.command.Place.the-variants as place
 use Rattle.command.specs.declared.keys.Key.{Key}
-use Rattle.script.specs.Cards.{Carded}
+use Rattle.script.specs.Cards.{CardView}
 use Rattle.script.specs.Marks.{verdictOf}
 
 -- a part that reads gives its line, and one that does not its fault
@@ -58,7 +58,7 @@ kindText (Some Class) p ks bytes = grantText classOf classNumber p ks bytes
 kindText (Some Compartments) p ks bytes = grantText compartmentsOf compartmentsNumber p ks bytes
 
 -- the card, and its four parts in their order
-unfoldable pub cardText : Option Kind → List Key → Carded → List ℕ
+unfoldable pub cardText : Option Kind → List Key → CardView → List ℕ
 cardText kind ks c =
     cardLine (c .label) (c .number) (c .writable)
     ++ idText ks (c .id)

@@ -3,7 +3,7 @@ ghost use mathlib.Core.List.{_++_};
 ghost use mathlib.Core.Path.{_≡_};
 ghost use Rattle.std.specs.Of.Vec.{vec-items};
 ghost use Rattle.std.specs.Vec.{made};
-ghost use Rattle.script.specs.Cards.{carded};
+ghost use Rattle.script.specs.Cards.{cardView};
 ghost use Rattle.script.specs.Views.{idText, iandaText, grantText, kindText, cardText};
 use crate::card::Card;
 use crate::marks::verdict;
@@ -112,7 +112,7 @@ pub(crate) fn card_text(
     keys: &[Key],
     card: &Card,
 ) -> Result<(), AllocError>
-    ensures { λ r. ⌜ made r (λ _. vec-items (now (out .exit)) ≡ vec-items (now (out .entry)) ++ cardText kind (now (keys .entry)) (carded (now (card .entry)))) ⌝ }
+    ensures { λ r. ⌜ made r (λ _. vec-items (now (out .exit)) ≡ vec-items (now (out .entry)) ++ cardText kind (now (keys .entry)) (cardView (now (card .entry)))) ⌝ }
 {
     card_line(out, card.label.as_slice(), card.number, card.writable)?;
     id_text(out, keys, card.id.as_slice())?;

@@ -2,11 +2,11 @@
 ghost use Rattle.certificate.specs.Fields.{id-at, ianda-at, numbers-at};
 use crate::body::Body;
 use crate::fault::Refusal;
+use crate::field_reading::base;
+use crate::field_reading::header;
+use crate::field_reading::placed;
 use crate::fields::Ianda;
 use crate::fields::Id;
-use crate::groups::base;
-use crate::groups::header;
-use crate::groups::placed;
 use crate::numbers::Numbers;
 use crate::reader::Reader;
 

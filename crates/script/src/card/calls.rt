@@ -2,7 +2,7 @@
 ghost use mathlib.Core.Path.{_≡_};
 ghost use Rattle.std.specs.Of.Vec.{vec-items};
 ghost use Rattle.std.specs.Vec.{made};
-ghost use Rattle.script.specs.Cards.{carded, newCard, withPart};
+ghost use Rattle.script.specs.Cards.{cardView, newCard, withPart};
 use crate::card::Card;
 use command::Place;
 use std::alloc::AllocError;
@@ -16,7 +16,7 @@ impl Card {
         number: u32,
         writable: bool,
     ) -> Result<Card, AllocError>
-        ensures { λ r. ⌜ made r (λ c. carded c ≡ newCard (now (label .entry)) number writable) ⌝ }
+        ensures { λ r. ⌜ made r (λ c. cardView c ≡ newCard (now (label .entry)) number writable) ⌝ }
     {
         let label = Vec::from_slice(heap, label)?;
         Ok(Card {
@@ -32,7 +32,7 @@ impl Card {
 
     // Another part in the place of the one it had.
     pub(crate) fn put(&mut self, place: Place, bytes: Vec<u8>)
-        ensures { λ _. ⌜ carded (now (self .exit)) ≡ withPart (carded (now (self .entry))) place (vec-items bytes) ⌝ }
+        ensures { λ _. ⌜ cardView (now (self .exit)) ≡ withPart (cardView (now (self .entry))) place (vec-items bytes) ⌝ }
     {
         match place {
             Place::Id => self.id = bytes,

@@ -8,7 +8,7 @@ ghost use Rattle.std.specs.Vec.{made};
 ghost use Rattle.command.specs.Words.{unhex};
 ghost use Rattle.script.specs.Cards.{cardNamed};
 ghost use Rattle.script.specs.Issues.{sealedBody, grantBytes};
-ghost use Rattle.script.specs.Sessions.{held, fresh, cardStep, putStep, partStep, grantPut, grantStep, Shows};
+ghost use Rattle.script.specs.Sessions.{sessionView, fresh, cardStep, putStep, partStep, grantPut, grantStep, Shows};
 use crate::card::Card;
 use crate::issue::issued;
 use crate::issue::issued_grant;
@@ -35,7 +35,7 @@ const PART: usize = 128;
 impl Session {
     // Before the first line.
     pub fn new(heap: Global) -> Session
-        ensures { λ r. ⌜ held r ≡ fresh ⌝ }
+        ensures { λ r. ⌜ sessionView r ≡ fresh ⌝ }
     {
         Session {
             kind: None,
@@ -51,7 +51,7 @@ impl Session {
         number: u32,
         writable: bool,
     ) -> Result<Option<Reason>, AllocError>
-        ensures { λ r. ⌜ made r (λ why. (held (now (self .exit)), why) ≡ cardStep (held (now (self .entry))) (now (label .entry)) number writable) ⌝ }
+        ensures { λ r. ⌜ made r (λ why. (sessionView (now (self .exit)), why) ≡ cardStep (sessionView (now (self .entry))) (now (label .entry)) number writable) ⌝ }
     {
         if let Some(_) = place_of(self.cards.as_slice(), label) {
             return Ok(Some(Reason::CardNamedBefore));
@@ -63,7 +63,7 @@ impl Session {
 
     // The part goes into the card of the label.
     fn put(&mut self, label: &[u8], place: Place, bytes: Vec<u8>) -> Option<Reason>
-        ensures { λ why. ⌜ (held (now (self .exit)), why) ≡ putStep (held (now (self .entry))) (now (label .entry)) place (vec-items bytes) ⌝ }
+        ensures { λ why. ⌜ (sessionView (now (self .exit)), why) ≡ putStep (sessionView (now (self .entry))) (now (label .entry)) place (vec-items bytes) ⌝ }
     {
         match place_of(self.cards.as_slice(), label) {
             None => Some(Reason::NoSuchCard),
@@ -78,7 +78,7 @@ impl Session {
 impl Session {
     // Whether a card has this label.
     fn knows(&self, label: &[u8]) -> bool
-        ensures { λ r. ⌜ r ≡ isSome (cardNamed (held (now (self .entry)) .cards) (now (label .entry))) ⌝ }
+        ensures { λ r. ⌜ r ≡ isSome (cardNamed (sessionView (now (self .entry)) .cards) (now (label .entry))) ⌝ }
     {
         match place_of(self.cards.as_slice(), label) {
             Some(_) => true,
@@ -93,7 +93,7 @@ impl Session {
         place: Place,
         hex: &[u8],
     ) -> Result<Option<Reason>, AllocError>
-        ensures { λ r. ⌜ made r (λ why. (held (now (self .exit)), why) ≡ partStep (held (now (self .entry))) (now (label .entry)) place (unhex (now (hex .entry)))) ⌝ }
+        ensures { λ r. ⌜ made r (λ why. (sessionView (now (self .exit)), why) ≡ partStep (sessionView (now (self .entry))) (now (label .entry)) place (unhex (now (hex .entry)))) ⌝ }
     {
         if !self.knows(label) {
             return Ok(Some(Reason::NoSuchCard));
@@ -112,7 +112,7 @@ impl Session {
         place: Place,
         fields: T,
     ) -> Result<Option<Reason>, AllocError>
-        ensures { λ r. ⌜ made r (λ why. (held (now (self .exit)), why) ≡ putStep (held (now (self .entry))) (now (label .entry)) place (sealedBody (vec-items (now (self .entry) .keys)) (T·Certificate .issuedBy fields) (T·Certificate .fieldBytes fields))) ⌝ }
+        ensures { λ r. ⌜ made r (λ why. (sessionView (now (self .exit)), why) ≡ putStep (sessionView (now (self .entry))) (now (label .entry)) place (sealedBody (vec-items (now (self .entry) .keys)) (T·Certificate .issuedBy fields) (T·Certificate .fieldBytes fields))) ⌝ }
     {
         let bytes = issued(self.cards.allocator(), self.keys.as_slice(), fields)?;
         Ok(self.put(label, place, bytes))
@@ -125,7 +125,7 @@ impl Session {
         place: Place,
         grant: Grant,
     ) -> Result<Option<Reason>, AllocError>
-        ensures { λ r. ⌜ made r (λ why. (held (now (self .exit)), why) ≡ grantPut (held (now (self .entry))) (now (label .entry)) place (grantBytes (C·Clearance .ofNumber) (C·Clearance .numberOf) (vec-items (now (self .entry) .keys)) grant)) ⌝ }
+        ensures { λ r. ⌜ made r (λ why. (sessionView (now (self .exit)), why) ≡ grantPut (sessionView (now (self .entry))) (now (label .entry)) place (grantBytes (C·Clearance .ofNumber) (C·Clearance .numberOf) (vec-items (now (self .entry) .keys)) grant)) ⌝ }
     {
         let issue = issued_grant::<C>(self.cards.allocator(), self.keys.as_slice(), grant)?;
         match issue {
@@ -141,7 +141,7 @@ impl Session {
         place: Place,
         grant: Grant,
     ) -> Result<Option<Reason>, AllocError>
-        ensures { λ r. ⌜ made r (λ why. (held (now (self .exit)), why) ≡ grantStep (held (now (self .entry))) (now (label .entry)) place grant) ⌝ }
+        ensures { λ r. ⌜ made r (λ why. (sessionView (now (self .exit)), why) ≡ grantStep (sessionView (now (self .entry))) (now (label .entry)) place grant) ⌝ }
     {
         if !self.knows(label) {
             return Ok(Some(Reason::NoSuchCard));
@@ -157,7 +157,7 @@ impl Session {
 
     // The account of the card of a label.
     pub(crate) fn show(&self, label: &[u8], out: &mut Vec<u8>) -> Result<Option<Reason>, AllocError>
-        ensures { λ r. ⌜ made r (λ why. Shows (held (now (self .entry))) (now (label .entry)) (vec-items (now (out .entry))) (vec-items (now (out .exit))) why) ⌝ }
+        ensures { λ r. ⌜ made r (λ why. Shows (sessionView (now (self .entry))) (now (label .entry)) (vec-items (now (out .entry))) (vec-items (now (out .exit))) why) ⌝ }
     {
         match place_of(self.cards.as_slice(), label) {
             None => Ok(Some(Reason::NoSuchCard)),

@@ -4,8 +4,8 @@ ghost use mathlib.Core.Path.{_≡_};
 ghost use Rattle.std.specs.Of.Vec.{vec-items};
 ghost use Rattle.std.specs.Vec.{made};
 ghost use Rattle.command.specs.Commands.{said, lineOf};
-ghost use Rattle.script.specs.Lines.{carriedOut, accountOf, heldAfter, printedBy};
-ghost use Rattle.script.specs.Sessions.{held};
+ghost use Rattle.script.specs.Lines.{carriedOut, accountOf, sessionAfter, printedBy};
+ghost use Rattle.script.specs.Sessions.{sessionView};
 use crate::session::Session;
 use account::Reason;
 use account::refused_line;
@@ -22,8 +22,8 @@ impl Session {
         command: Command,
         out: &mut Vec<u8>,
     ) -> Result<Option<Reason>, AllocError>
-        ensures after { λ r. ⌜ made r (λ why. (held (now (self .exit)), why) ≡ carriedOut (held (now (self .entry))) (said (command .entry))) ⌝ }
-        ensures printed { λ r. ⌜ made r (λ _. vec-items (now (out .exit)) ≡ vec-items (now (out .entry)) ++ accountOf (held (now (self .entry))) (said (command .entry))) ⌝ }
+        ensures after { λ r. ⌜ made r (λ why. (sessionView (now (self .exit)), why) ≡ carriedOut (sessionView (now (self .entry))) (said (command .entry))) ⌝ }
+        ensures printed { λ r. ⌜ made r (λ _. vec-items (now (out .exit)) ≡ vec-items (now (out .entry)) ++ accountOf (sessionView (now (self .entry))) (said (command .entry))) ⌝ }
     {
         match command {
             Command::Nothing => Ok(None),
@@ -54,8 +54,8 @@ impl Session {
 
     // Carries out the n-th line, which stands without its newline, and puts what it prints behind `out`.
     pub fn line(&mut self, n: usize, line: &[u8], out: &mut Vec<u8>) -> Result<(), AllocError>
-        ensures after { λ r. ⌜ made r (λ _. held (now (self .exit)) ≡ heldAfter (held (now (self .entry))) (lineOf (now (line .entry)))) ⌝ }
-        ensures printed { λ r. ⌜ made r (λ _. vec-items (now (out .exit)) ≡ vec-items (now (out .entry)) ++ printedBy (held (now (self .entry))) n (lineOf (now (line .entry)))) ⌝ }
+        ensures after { λ r. ⌜ made r (λ _. sessionView (now (self .exit)) ≡ sessionAfter (sessionView (now (self .entry))) (lineOf (now (line .entry)))) ⌝ }
+        ensures printed { λ r. ⌜ made r (λ _. vec-items (now (out .exit)) ≡ vec-items (now (out .entry)) ++ printedBy (sessionView (now (self .entry))) n (lineOf (now (line .entry)))) ⌝ }
     {
         let Some(command) = Command::of(line) else {
             return refused_line(out, n, Reason::NotUnderstood);

@@ -3,7 +3,7 @@ use mathlib.Core.Bool.{Bool, true, false}
 use native.Mathlib.Omega.{arith}
 use Rattle.std.specs.shelf.Text.{sameBytes}
 use Rattle.std.specs.declared.option.Option.the-variants.{Some}
-use Rattle.script.specs.Cards.{carded}
+use Rattle.script.specs.Cards.{cardView}
 use Rattle.script.proofs.Tables.{named-at, put-at, named-none, others-more, here-any}
 use Rattle.script.proofs.table.place_of.Needs as need
 
@@ -15,7 +15,7 @@ returns-then-same c =
     let here = here-any cs label i _ true (c .loop-i-test .taken) (ap (λ xs. sameBytes xs label) (sym (c .as-slice .ensures .value)) ∙ sym (c .if-same .ensures tt)) in
     record {
       within = c .loop-i-test .taken;
-      found = (carded (c .index-cards-i .result), named-at cs label i _ (c .loop-i-test .taken) (c .loop-i .inv) (here _) ∙ ap (λ x. Some (carded x)) (sym (c .index-cards-i .is)));
+      found = (cardView (c .index-cards-i .result), named-at cs label i _ (c .loop-i-test .taken) (c .loop-i .inv) (here _) ∙ ap (λ x. Some (cardView x)) (sym (c .index-cards-i .is)));
       card = λ d. named-at cs label i d (c .loop-i-test .taken) (c .loop-i .inv) (here d);
       put = λ d p bytes. put-at cs label i d p bytes (c .loop-i-test .taken) (c .loop-i .inv) (here d);
     }

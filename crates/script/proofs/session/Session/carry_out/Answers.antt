@@ -2,7 +2,7 @@ use mathlib.Core.Path.{_≡_, refl, sym, ap, _∙_}
 use Rattle.std.proofs.shelf.Lists.{append-nil}
 use Rattle.std.specs.Of.Vec.{vec-items}
 use Rattle.std.specs.declared.option.Option.the-variants.{None}
-use Rattle.script.specs.Sessions.{Step, held}
+use Rattle.script.specs.Sessions.{Step, sessionView}
 use Rattle.script.specs.Lines.{carriedOut, accountOf}
 use Rattle.script.proofs.Answered.{made-none, made-first, made-second}
 use Rattle.script.proofs.session.Session.carry_out.Needs as need
@@ -21,7 +21,7 @@ returns-in-Continue-self c =
     let s = c .args .self .now in
     rw (c .in-Seal .is)
     (record {
-      after = ap {B = Step} (λ ks. (record { kind = s .kind; keys = ks; cards = held s .cards }, None)) (c .in-Continue-self .ensures tt);
+      after = ap {B = Step} (λ ks. (record { kind = s .kind; keys = ks; cards = sessionView s .cards }, None)) (c .in-Continue-self .ensures tt);
       printed = sym (append-nil _);
     })
 

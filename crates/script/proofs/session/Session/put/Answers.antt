@@ -4,8 +4,8 @@ use lib.ListN.{set}
 use Rattle.std.proofs.shelf.Lists.{map-set}
 use Rattle.std.specs.Of.Vec.{vec-items}
 use Rattle.std.specs.declared.option.Option.the-variants.{None}
-use Rattle.script.specs.Cards.{carded, withPart}
-use Rattle.script.specs.Sessions.{Step, held, withCards, putStep, onCard}
+use Rattle.script.specs.Cards.{cardView, withPart}
+use Rattle.script.specs.Sessions.{Step, sessionView, withCards, putStep, onCard}
 use Rattle.script.proofs.session.Session.put.Needs as need
 
 pub returns-in-None : need.returns-in-None
@@ -16,12 +16,12 @@ pub returns-in-Some : need.returns-in-Some
 unfolding putStep onCard
 returns-in-Some c =
     let at = rw (c .as-slice .ensures .value) at (c .in-Some .ensures tt) in
-    let s = held (c .args .self .now) in
+    let s = sessionView (c .args .self .now) in
     let items = vec-items (c .args .self .now .cards) in
     let i = c .in-Some .i in
     let bytes = vec-items (c .args .bytes) in
     rw (at .found .1)
     (ap {B = Step} (λ cs. (withCards s cs, None))
-    (map-set carded items i (c .put .last .self)
-    ∙ ap (set (map carded items) i) (c .put .ensures ∙ ap (λ x. withPart (carded x) (c .args .place) bytes) (c .index-mut .ensures .value))
+    (map-set cardView items i (c .put .last .self)
+    ∙ ap (set (map cardView items) i) (c .put .ensures ∙ ap (λ x. withPart (cardView x) (c .args .place) bytes) (c .index-mut .ensures .value))
     ∙ sym (at .put _ (c .args .place) bytes)))

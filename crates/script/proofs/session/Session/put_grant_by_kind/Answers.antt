@@ -1,6 +1,6 @@
 use mathlib.Core.Path.{_≡_, ap, _∙_, sym}
 use Rattle.std.specs.declared.option.Option.the-variants.{Some}
-use Rattle.script.specs.Sessions.{held, grantStep, grantBy}
+use Rattle.script.specs.Sessions.{sessionView, grantStep, grantBy}
 use Rattle.script.proofs.Steps.{on-none, on-some}
 use Rattle.script.proofs.session.Session.put_grant_by_kind.Needs as need
 
@@ -11,19 +11,19 @@ returns-then-not-knows c = on-none _ _ _ (c .if-not-knows .ensures tt)
 pub returns-in-rest : need.returns-in-rest
 unfolding grantStep grantBy
 returns-in-rest c =
-    let s = held (c .args .self .now) in
+    let s = sessionView (c .args .self .now) in
     ap (grantBy s (c .args .label .now) (c .args .place) (c .args .grant)) (sym (c .in-rest .is)) ∙ on-some s _ _ (c .if-not-knows .ensures tt)
 
 pub returns-in-Class : need.returns-in-Class
 unfolding grantStep grantBy
 returns-in-Class c =
-    let s = held (c .args .self .now) in
+    let s = sessionView (c .args .self .now) in
     let e = ap (grantBy s (c .args .label .now) (c .args .place) (c .args .grant)) (sym (c .in-Some .is ∙ ap Some (c .in-Class .is))) ∙ on-some s _ _ (c .if-not-knows .ensures tt) in
     rw (sym e) (c .put-grant .ensures)
 
 pub returns-in-Compartments : need.returns-in-Compartments
 unfolding grantStep grantBy
 returns-in-Compartments c =
-    let s = held (c .args .self .now) in
+    let s = sessionView (c .args .self .now) in
     let e = ap (grantBy s (c .args .label .now) (c .args .place) (c .args .grant)) (sym (c .in-Some .is ∙ ap Some (c .in-Compartments .is))) ∙ on-some s _ _ (c .if-not-knows .ensures tt) in
     rw (sym e) (c .put-grant-in-Compartments .ensures)

@@ -1,7 +1,7 @@
 use mathlib.Core.Path.{_≡_, ap, _∙_, sym, refl}
 use Rattle.std.proofs.shelf.Lists.{append-nil}
 use Rattle.std.specs.declared.option.Option.the-variants.{Some}
-use Rattle.script.specs.Cards.{carded}
+use Rattle.script.specs.Cards.{cardView}
 use Rattle.script.specs.Sessions.{onCard, shownText}
 use Rattle.script.proofs.session.Session.show.Needs as need
 
@@ -13,4 +13,4 @@ pub returns-in-Continue-card-text : need.returns-in-Continue-card-text
 unfolding onCard shownText
 returns-in-Continue-card-text c =
     let at = rw (c .as-slice .ensures .value) at (c .in-Some .ensures tt) in
-    rw (at .card _ ∙ ap (λ x. Some (carded x)) (sym (c .index .ensures))) (rw (c .as-slice-in-Some .ensures .value) at (c .in-Continue-card-text .ensures tt), refl)
+    rw (at .card _ ∙ ap (λ x. Some (cardView x)) (sym (c .index .ensures))) (rw (c .as-slice-in-Some .ensures .value) at (c .in-Continue-card-text .ensures tt), refl)

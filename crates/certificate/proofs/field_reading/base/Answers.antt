@@ -1,7 +1,7 @@
 use Rattle.std.proofs.shelf.Results.{err-from-errBy}
 use Rattle.certificate.specs.Placed.{followed}
 use Rattle.certificate.specs.Fields.{base-at}
-use Rattle.certificate.proofs.groups.base.Needs as need
+use Rattle.certificate.proofs.field_reading.base.Needs as need
 
 pub returns-in-Break-identity : need.returns-in-Break-identity
 unfolding base-at followed

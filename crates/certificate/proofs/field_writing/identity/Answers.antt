@@ -1,7 +1,7 @@
 use native.Mathlib.Omega.{arith}
 use Rattle.std.proofs.shelf.Lists.{append-assoc}
 use Rattle.certificate.specs.Fields.{identity-bytes}
-use Rattle.certificate.proofs.parts.identity.Needs as need
+use Rattle.certificate.proofs.field_writing.identity.Needs as need
 
 pub returns : need.returns
 unfolding identity-bytes

@@ -1,7 +1,7 @@
 use Rattle.std.proofs.shelf.Results.{err-from-errBy}
 use Rattle.certificate.specs.Placed.{followed}
 use Rattle.certificate.specs.Fields.{header-at}
-use Rattle.certificate.proofs.groups.header.Needs as need
+use Rattle.certificate.proofs.field_reading.header.Needs as need
 
 pub returns-in-Break-identity : need.returns-in-Break-identity
 unfolding header-at followed

@@ -1,7 +1,7 @@
 use native.Mathlib.Omega.{arith}
 use Rattle.std.proofs.shelf.Lists.{append-assoc}
 use Rattle.certificate.specs.Fields.{base-bytes}
-use Rattle.certificate.proofs.parts.base.Needs as need
+use Rattle.certificate.proofs.field_writing.base.Needs as need
 
 pub returns : need.returns
 unfolding base-bytes

@@ -1,7 +1,7 @@
 use Rattle.std.proofs.shelf.Results.{err-from-errBy}
 use Rattle.certificate.specs.Placed.{followed}
 use Rattle.certificate.specs.Fields.{identity-at}
-use Rattle.certificate.proofs.groups.identity.Needs as need
+use Rattle.certificate.proofs.field_reading.identity.Needs as need
 
 pub returns-in-Break-issuer : need.returns-in-Break-issuer
 unfolding identity-at followed

@@ -1,7 +1,7 @@
 use Rattle.std.proofs.shelf.Results.{err-from-errBy}
 use Rattle.certificate.specs.Placed.{followed}
 use Rattle.certificate.specs.Fields.{placed-at}
-use Rattle.certificate.proofs.groups.placed.Needs as need
+use Rattle.certificate.proofs.field_reading.placed.Needs as need
 
 pub returns-in-Break-number : need.returns-in-Break-number
 unfolding placed-at followed

@@ -5,7 +5,7 @@ use Rattle.std.proofs.shelf.Lists.{append-assoc}
 use Rattle.certificate.specs.Der.{encode-integer}
 use Rattle.certificate.specs.Written.{written}
 use Rattle.certificate.specs.Fields.{header-bytes, identity-bytes}
-use Rattle.certificate.proofs.parts.header.Needs as need
+use Rattle.certificate.proofs.field_writing.header.Needs as need
 
 pub returns : need.returns
 unfolding header-bytes

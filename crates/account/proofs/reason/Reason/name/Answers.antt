@@ -1,6 +1,6 @@
 -- Each arm has its reason's text.
 use mathlib.Core.Path.{ap, sym}
-use Rattle.account.proofs.show.Reason.name.Needs as need
+use Rattle.account.proofs.reason.Reason.name.Needs as need
 use Rattle.account.specs.Texts.{reasonText}
 
 pub returns-in-NoSuchCard : need.returns-in-NoSuchCard
