@@ -22,13 +22,13 @@ abbrev pub newline : List ℕ
 newline = 10 ∷ []
 
 -- the hexadecimal digit of a number below 16
-abbrev pub hexDigit : ℕ → ℕ
-hexDigit d = getD (codes "0123456789abcdef") d 0
+abbrev pub digitOf : ℕ → ℕ
+digitOf d = getD (codes "0123456789abcdef") d 0
 
 -- two digits for each byte
 unfoldable pub hexText : List ℕ → List ℕ
 hexText [] = []
-hexText (b ∷ bs) = hexDigit (b / 16) ∷ hexDigit (b % 16) ∷ hexText bs
+hexText (b ∷ bs) = digitOf (b / 16) ∷ digitOf (b % 16) ∷ hexText bs
 
 -- a name and its number, with a space before each
 unfoldable pub fieldText : List ℕ → ℕ → List ℕ
@@ -79,7 +79,7 @@ faultLine p fault at = placeText p ++ fieldText (codes "fault") fault ++ fieldTe
 unfoldable pub noKindLine : Place → List ℕ
 noKindLine p = placeText p ++ codes " no clearance kind" ++ newline
 
--- whether a card can be written
+-- whether part 4 of a card can be written
 abbrev pub stateText : Bool → List ℕ
 stateText true = codes " writable"
 stateText false = codes " fixed"

@@ -124,7 +124,7 @@ pub fn no_kind_line(out: &mut Vec<u8>, place: Place) -> Result<(), AllocError>
     text(out, b"\n")
 }
 
-// Whether a card can be written.
+// Whether part 4 of a card can be written.
 fn state(out: &mut Vec<u8>, writable: bool) -> Result<(), AllocError>
     ensures { λ r. ⌜ made r (λ _. vec-items (now (out .exit)) ≡ vec-items (now (out .entry)) ++ stateText writable) ⌝ }
 {

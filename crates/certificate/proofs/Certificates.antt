@@ -1,6 +1,6 @@
--- The two laws of certificates. Assumes nothing.
+-- The two laws of certificates.
 use mathlib.Core.Path.{_≡_, refl, sym, ap, subst, _∙_}
-use mathlib.Core.List.{List, [], _∷_, _++_}
+use mathlib.Core.List.{List, [], _++_}
 use Prim.Native.Nat.{ℕ, zero, suc, _+_, _≤_}
 use native.Mathlib.Omega.{arith}
 use lib.ListN.{length}
@@ -19,31 +19,15 @@ use Rattle.certificate.specs.declared.fields.Base.{Base}
 use Rattle.certificate.specs.declared.fields.Id.{Id}
 use Rattle.certificate.specs.declared.fields.Ianda.{Ianda}
 use Rattle.certificate.specs.declared.fields.Privilege.{Privilege}
-use Rattle.certificate.specs.declared.numbers.Placed.{Placed}
 use Rattle.certificate.specs.declared.numbers.Numbers.{Numbers}
 use Rattle.certificate.specs.Roles.{roleNumber, roleOf}
 use Rattle.certificate.specs.Der.{encode-integer, wrap}
-use Rattle.certificate.specs.Placed.{State, number-at, octets-at, sequence-at, end-at, ended, followed}
-use Rattle.certificate.specs.Fields.{
-  id-at,
-  ianda-at,
-  header-at,
-  base-at,
-  placed-at,
-  numbers-at,
-  granted,
-  judged,
-  identity-bytes,
-  header-bytes,
-  base-bytes,
-  id-bytes,
-  ianda-bytes,
-  privilege-bytes,
-}
-use Rattle.certificate.specs.Certificates.{Sealed, Opened, then, opened, filled, closed, certified, id-of, ianda-of, privilege-of, message-of, certificate}
+use Rattle.certificate.specs.Placed.{State, octets-at, sequence-at, end-at, ended, followed}
+use Rattle.certificate.specs.Fields.{id-at, ianda-at, placed-at, numbers-at, granted, judged, identity-bytes, header-bytes, base-bytes, id-bytes, ianda-bytes, privilege-bytes}
+use Rattle.certificate.specs.Certificates.{Opened, then, opened, filled, closed, certified, id-of, ianda-of, privilege-of, message-of, certificate}
 use Rattle.certificate.specs.Laws.{Fits, Identity-fits, Header-fits, Base-fits, Id-fits, Ianda-fits, Privilege-fits, Reads-back, One-encoding}
 use Rattle.certificate.proofs.States.{no-ok-here, same-ok, followed-ok, octets-only, sequence-only, end-only, octets-back, sequence-back, number-back, under-inside, length-encode}
-use Rattle.certificate.proofs.Codecs.{Codec, Only, peel, number-codec, header-codec, base-codec, id-codec, ianda-codec}
+use Rattle.certificate.proofs.Codecs.{Only, peel, number-codec, header-codec, base-codec, id-codec, ianda-codec}
 
 then-ok : {A B : Type 0} (r : Result A Refusal) (f : A → Result B Refusal) (y : B) → then r f ≡ Ok y → (x : A) × (r ≡ Ok x) × (f x ≡ Ok y)
 unfolding then

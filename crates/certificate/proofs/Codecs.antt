@@ -1,13 +1,12 @@
--- Each group of fields: what was written is read back, and what is read is that writing. Assumes nothing.
+-- Each group of fields: what was written is read back, and what is read is that writing.
 use mathlib.Core.Path.{_≡_, refl, sym, ap, subst, _∙_}
-use mathlib.Core.List.{List, [], _∷_, _++_}
-use Prim.Native.Nat.{ℕ, _+_, _≤_}
-use native.Mathlib.Omega.{arith}
+use mathlib.Core.List.{List, _++_}
+use Prim.Native.Nat.{ℕ, _+_}
 use lib.ListN.{length}
 use Rattle.std.specs.shelf.Digits.{Under}
-use Rattle.std.proofs.shelf.Lists.{append-assoc, length-append}
+use Rattle.std.proofs.shelf.Lists.{append-assoc}
 use Rattle.std.specs.declared.result.Result.{Result}
-use Rattle.std.specs.declared.result.Result.the-variants.{Ok, Err}
+use Rattle.std.specs.declared.result.Result.the-variants.{Ok}
 use Rattle.certificate.specs.declared.fault.Refusal.{Refusal}
 use Rattle.certificate.specs.declared.fields.Identity.{Identity}
 use Rattle.certificate.specs.declared.fields.Header.{Header}

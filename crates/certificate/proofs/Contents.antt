@@ -1,7 +1,7 @@
--- The contents of an INTEGER: the fewest bytes of a number, and the number of such bytes. Assumes nothing.
+-- The contents of an INTEGER: the fewest bytes of a number, and the number of such bytes.
 use mathlib.Core.Path.{_≡_, refl, sym, ap, subst, _∙_}
 use mathlib.Core.List.{List, [], _∷_, _++_, reverse}
-use mathlib.Core.Bool.{Bool, true, false, cond, _&&_, _||_}
+use mathlib.Core.Bool.{true, false, _&&_, _||_}
 use mathlib.Core.Logic.{inl, inr}
 use Prim.Native.Nat.{ℕ, zero, suc, _+_, _-_, _*_, _/_, _%_, _^_, _<_, _≤_}
 use native.Mathlib.Nat.{le-trans, mul-assoc, mul-le-mul-right, pow-succ', pow-le-pow-right}

@@ -1,7 +1,6 @@
--- Readings at an offset. Assumes nothing.
-use mathlib.Core.Path.{_≡_, refl, sym, ap, _∙_}
+-- Readings at an offset.
+use mathlib.Core.Path.{_≡_, refl, sym, ap}
 use mathlib.Core.List.{List, [], _∷_}
-use mathlib.Core.Bool.{true}
 use Prim.Native.Nat.{ℕ, _+_, _-_, _<_, _≤_}
 use native.Mathlib.Omega.{arith}
 use lib.Dec.{leb}
@@ -15,16 +14,16 @@ use Rattle.certificate.specs.declared.fault.Fault.{Fault}
 use Rattle.certificate.specs.declared.fault.Fault.the-variants.{LeftOver}
 use Rattle.certificate.specs.declared.fault.Refusal.{Refusal}
 use Rattle.certificate.specs.Der.{element, integer, acceptable, shortest}
-use Rattle.certificate.specs.Placed.{State, placed, told, sequence-at, inside, ended}
-use Rattle.certificate.proofs.Elements.{element-room, valued-only, no-ok, ok-ok}
+use Rattle.certificate.specs.Placed.{State, placed, atOffset, sequence-at, inside, ended}
+use Rattle.certificate.proofs.Elements.{element-room, valued-only}
 
 module _ {A : Type 0} (p : List ℕ → Result (A × List ℕ) Fault) (left : List ℕ) (at : ℕ) where
   pub placed-err : (e : Refusal) → p left ≡ Err (e .fault) → e .at ≡ at → placed p (left, at) ≡ Err e
-  unfolding placed told
+  unfolding placed atOffset
   placed-err e h q = rw h (ap (λ a. Err (record { fault = e .fault; at = a })) (sym q))
 
   pub placed-ok : (x : A) (left′ : List ℕ) (at′ : ℕ) → p left ≡ Ok (x, left′) → at′ ≡ at + (length left - length left′) → placed p (left, at) ≡ Ok (x, (left′, at′))
-  unfolding placed told
+  unfolding placed atOffset
   placed-ok x left′ at′ h q = rw h (ap (λ a. Ok (x, (left′, a))) (sym q))
 
 -- what `advance` leaves after an element
@@ -41,17 +40,17 @@ integer-max max n xs rest h =
     let le : number 256 (v .0) ≤ max = leb-true _ max (and-parts (shortest (v .0)) (leb (number 256 (v .0)) max) (v .2) .1) in
     omega (arith, v .3)
 
-told-max : (max n : ℕ) (s t : State) (r : Result (ℕ × List ℕ) Fault) → ((rest : List ℕ) (m : ℕ) → r ≡ Ok (m, rest) → m ≤ max) → told r s ≡ Ok (n, t) → n ≤ max
-unfolding told
-told-max max n s t (Ok p) f h = omega (arith, f (p .1) (p .0) refl, ap (λ q. q .0) (refused-ok h))
+offset-max : (max n : ℕ) (s t : State) (r : Result (ℕ × List ℕ) Fault) → ((rest : List ℕ) (m : ℕ) → r ≡ Ok (m, rest) → m ≤ max) → atOffset r s ≡ Ok (n, t) → n ≤ max
+unfolding atOffset
+offset-max max n s t (Ok p) f h = omega (arith, f (p .1) (p .0) refl, ap (λ q. q .0) (refused-ok h))
   where
     refused-ok : {B : Type 0} {p q : B} → _≡_ {A = Result B Refusal} (Ok p) (Ok q) → p ≡ q
     refused-ok e = cc
-told-max max n s t (Err e) f h = absurd (let z : _≡_ {A = ℕ} 0 1 = cc in omega arith)
+offset-max max n s t (Err e) f h = absurd (let z : _≡_ {A = ℕ} 0 1 = cc in omega arith)
 
 pub placed-max : (max n : ℕ) (s t : State) → placed (integer max) s ≡ Ok (n, t) → n ≤ max
 unfolding placed
-placed-max max n s t h = told-max max n s t (integer max (s .0)) (λ rest m e. integer-max max m (s .0) rest e) h
+placed-max max n s t h = offset-max max n s t (integer max (s .0)) (λ rest m e. integer-max max m (s .0) rest e) h
 
 -- SEQUENCEs, and the end
 

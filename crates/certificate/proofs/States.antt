@@ -1,7 +1,6 @@
--- Readings and what they leave. Assumes nothing.
-use mathlib.Core.Path.{_≡_, refl, sym, ap, subst, _∙_}
+-- Readings and what they leave.
+use mathlib.Core.Path.{_≡_, refl, ap, subst}
 use mathlib.Core.List.{List, [], _∷_, _++_}
-use mathlib.Core.Bool.{true, false, cond}
 use mathlib.Core.Logic.{inl, inr}
 use Prim.Native.Nat.{ℕ, _+_, _-_, _≤_}
 use native.Mathlib.Omega.{arith}
@@ -14,8 +13,8 @@ use Rattle.std.specs.declared.result.Result.{Result}
 use Rattle.std.specs.declared.result.Result.the-variants.{Ok, Err}
 use Rattle.certificate.specs.declared.fault.Fault.{Fault}
 use Rattle.certificate.specs.declared.fault.Refusal.{Refusal}
-use Rattle.certificate.specs.Der.{element, integer, octets, sized, content, encode-integer, wrap}
-use Rattle.certificate.specs.Placed.{State, told, placed, number-at, octets-at, inside, sequence-at, ended, end-at, followed}
+use Rattle.certificate.specs.Der.{element, integer, octets, sized, encode-integer, wrap}
+use Rattle.certificate.specs.Placed.{State, atOffset, placed, number-at, octets-at, inside, sequence-at, ended, end-at, followed}
 use Rattle.certificate.proofs.Elements.{element-wrap, element-only, octets-good, read-back, one-encoding, no-ok}
 use Rattle.certificate.proofs.Contents.{length-content}
 
@@ -33,14 +32,14 @@ unfolding followed
 followed-ok (Ok p) f y h = (p, refl, h)
 followed-ok (Err e) f y h = absurd (no-ok-here h)
 
-told-only : {A : Type 0} (r : Result (A × List ℕ) Fault) (s t : State) (x : A) → told r s ≡ Ok (x, t) → r ≡ Ok (x, t .0)
-unfolding told
-told-only (Ok p) s t x h = ap (λ q. Ok (q .0, q .1 .0)) (same-ok h)
-told-only (Err e) s t x h = absurd (no-ok-here h)
+offset-only : {A : Type 0} (r : Result (A × List ℕ) Fault) (s t : State) (x : A) → atOffset r s ≡ Ok (x, t) → r ≡ Ok (x, t .0)
+unfolding atOffset
+offset-only (Ok p) s t x h = ap (λ q. Ok (q .0, q .1 .0)) (same-ok h)
+offset-only (Err e) s t x h = absurd (no-ok-here h)
 
 pub placed-only : {A : Type 0} (p : List ℕ → Result (A × List ℕ) Fault) (s t : State) (x : A) → placed p s ≡ Ok (x, t) → p (s .0) ≡ Ok (x, t .0)
 unfolding placed
-placed-only p s t x h = told-only (p (s .0)) s t x h
+placed-only p s t x h = offset-only (p (s .0)) s t x h
 
 pub under-right : (xs ys : List ℕ) → Under 256 (xs ++ ys) → Under 256 ys
 under-right [] ys h = h
@@ -90,30 +89,30 @@ end-only s p h = ended-only (s .0) (s .1) p h
 
 -- what was written is read, and leaves what follows it
 
-told-back : {A : Type 0} (p : List ℕ → Result (A × List ℕ) Fault) (xs : List ℕ) (at : ℕ) (x : A) (rest : List ℕ) → p xs ≡ Ok (x, rest)
+offset-back : {A : Type 0} (p : List ℕ → Result (A × List ℕ) Fault) (xs : List ℕ) (at : ℕ) (x : A) (rest : List ℕ) → p xs ≡ Ok (x, rest)
     → placed p (xs, at) ≡ Ok (x, (rest, at + (length xs - length rest)))
-unfolding placed told
-told-back p xs at x rest h = rw h
+unfolding placed atOffset
+offset-back p xs at x rest h = rw h
 
 pub number-back : (n at : ℕ) (rest : List ℕ) → n ≤ 4294967295 → (k : ℕ) × (number-at (encode-integer n ++ rest, at) ≡ Ok (n, (rest, k)))
 unfolding number-at
 number-back n at rest h = (
   at + (length (encode-integer n ++ rest) - length rest),
-  told-back (integer 4294967295) (encode-integer n ++ rest) at n rest (read-back 4294967295 n rest h (omega (arith, length-content 4 n (omega arith)))),
+  offset-back (integer 4294967295) (encode-integer n ++ rest) at n rest (read-back 4294967295 n rest h (omega (arith, length-content 4 n (omega arith)))),
 )
 
 pub octets-back : (m : List ℕ) (at : ℕ) (rest : List ℕ) → length m ≡ 32 → (k : ℕ) × (octets-at (wrap 4 m ++ rest, at) ≡ Ok (m, (rest, k)))
 unfolding octets-at
 octets-back m at rest h = (
   at + (length (wrap 4 m ++ rest) - length rest),
-  told-back octets (wrap 4 m ++ rest) at m rest (octets-good (wrap 4 m ++ rest) m rest (element-wrap 4 m rest (omega arith)) h),
+  offset-back octets (wrap 4 m ++ rest) at m rest (octets-good (wrap 4 m ++ rest) m rest (element-wrap 4 m rest (omega arith)) h),
 )
 
 pub sequence-back : (c : List ℕ) (at : ℕ) (rest : List ℕ) → length c ≤ 127 → (k : ℕ) × (sequence-at (wrap 0x30 c ++ rest, at) ≡ Ok ((c, at + 2), (rest, k)))
 unfolding sequence-at inside
 sequence-back c at rest h = (
   at + (length (wrap 0x30 c ++ rest) - length rest),
-  rw (told-back (element 0x30) (wrap 0x30 c ++ rest) at c rest (element-wrap 0x30 c rest h)),
+  rw (offset-back (element 0x30) (wrap 0x30 c ++ rest) at c rest (element-wrap 0x30 c rest h)),
 )
 
 pub under-left : (xs ys : List ℕ) → Under 256 (xs ++ ys) → Under 256 xs

@@ -27,12 +27,13 @@ unfoldable pub then : {A B : Type 0} → Result A Refusal → (A → Result B Re
 then (Ok x) f = f x
 then (Err e) f = Err e
 
--- the headers of the outer SEQUENCE and of the body: what the body holds, what follows the body, and what follows the whole
+-- a certificate without its two headers: what the body holds, what follows the body, and what follows the whole
 pub record Opened : Type 0 where
   pub inner : State
   pub rest : State
   pub after : State
 
+-- the header of the outer SEQUENCE, and that of the body
 unfoldable pub opened : List ℕ → Result Opened Refusal
 opened bytes =
     followed (sequence-at (bytes, 0)) (λ outer after.
@@ -62,15 +63,15 @@ certified body bytes =
     then (closed (o .rest) (o .after)) (λ mark.
     Ok (record { fields = fields; message = wrap 0x30 (o .inner .0); mark = mark }))))
 
--- what bytes say as a certificate of each kind
-
+-- what bytes say as an ID certificate
 abbrev pub id-of : List ℕ → Result (Sealed Id) Refusal
 id-of bytes = certified id-at bytes
 
+-- as an I&A certificate
 abbrev pub ianda-of : List ℕ → Result (Sealed Ianda) Refusal
 ianda-of bytes = certified ianda-at bytes
 
--- a privilege or an authorisation certificate, over any clearance kind: role and clearance are judged last of all
+-- as a privilege or an authorisation certificate, over any clearance kind: role and clearance are judged last of all
 unfoldable pub privilege-of : {C : Type 0} → (ℕ → Option C) → List ℕ → Result (Sealed (Privilege C)) Refusal
 privilege-of ofNumber bytes =
     then (certified numbers-at bytes) (λ x.
@@ -82,11 +83,13 @@ abbrev pub Answers : {T : Type 0} → Result (Sealed T) Refusal → Result (Read
 Answers says (Ok x) = says ≡ Ok (record { fields = x .fields; message = now (x .message); mark = x .mark })
 Answers says (Err e) = says ≡ Err e
 
--- writing: the sealed message is the body with its header, and the certificate wraps it with the mark
+-- writing
 
+-- the sealed message is the body with its header
 unfoldable pub message-of : List ℕ → List ℕ
 message-of body = wrap 0x30 body
 
+-- the certificate holds the message and the mark
 unfoldable pub certificate : List ℕ → List ℕ → List ℕ
 certificate body mark = wrap 0x30 (message-of body ++ wrap 4 mark)
 

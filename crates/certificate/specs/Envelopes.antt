@@ -21,6 +21,7 @@ region r = (now (r .bytes), r .at)
 abbrev pub Short : Region → Type 0
 Short r = r .at + length (now (r .bytes)) < 2 ^ 63
 
+-- so can that of each region of an envelope
 abbrev pub Within : Envelope → Type 0
 Within e = Short (e .body) × Short (e .rest) × Short (e .after)
 

@@ -82,24 +82,29 @@ granted x (Some role) (Some clearance) = Ok (record { header = x .header; base =
 abbrev pub judged : {C : Type 0} → (ℕ → Option C) → Numbers → Result (Privilege C) Refusal
 judged ofNumber x = granted x (roleOf (x .role .number)) (ofNumber (x .clearance .number))
 
--- writing
+-- writing: the fields in the order in which they are read
 
+-- issuer and serial
 unfoldable pub identity-bytes : Identity → List ℕ
 identity-bytes x = encode-integer (x .issuer) ++ encode-integer (x .serial)
 
+-- identity, first time and last time
 unfoldable pub header-bytes : Header → List ℕ
 header-bytes x = identity-bytes (x .identity) ++ (encode-integer (x .first) ++ encode-integer (x .last))
 
+-- the identity of the ID certificate, and the card's number
 unfoldable pub base-bytes : Base → List ℕ
 base-bytes x = identity-bytes (x .identity) ++ encode-integer (x .card)
 
+-- the body of an ID certificate
 unfoldable pub id-bytes : Id → List ℕ
 id-bytes x = header-bytes (x .header) ++ encode-integer (x .subject)
 
+-- the body of an I&A certificate
 unfoldable pub ianda-bytes : Ianda → List ℕ
 ianda-bytes x = header-bytes (x .header) ++ (base-bytes (x .base) ++ wrap 4 (x .template))
 
--- role and clearance are written as their numbers
+-- the body of a privilege or an authorisation certificate: role and clearance are written as their numbers
 unfoldable pub privilege-bytes : {C : Type 0} → (C → ℕ) → Privilege C → List ℕ
 privilege-bytes numberOf x =
     header-bytes (x .header) ++ (base-bytes (x .base) ++ (encode-integer (roleNumber (x .role)) ++ encode-integer (numberOf (x .clearance))))

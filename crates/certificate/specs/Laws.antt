@@ -21,21 +21,27 @@ use Rattle.certificate.specs.Certificates.{Sealed, message-of, certificate}
 abbrev pub Fits : ℕ → Type 0
 Fits n = n ≤ 4294967295
 
+-- each number of an identity
 abbrev pub Identity-fits : Identity → Type 0
 Identity-fits x = Fits (x .issuer) × Fits (x .serial)
 
+-- of a header
 abbrev pub Header-fits : Header → Type 0
 Header-fits x = Identity-fits (x .identity) × Fits (x .first) × Fits (x .last)
 
+-- of a base
 abbrev pub Base-fits : Base → Type 0
 Base-fits x = Identity-fits (x .identity) × Fits (x .card)
 
+-- of an ID certificate
 abbrev pub Id-fits : Id → Type 0
 Id-fits x = Header-fits (x .header) × Fits (x .subject)
 
+-- of an I&A certificate, and its template
 abbrev pub Ianda-fits : Ianda → Type 0
 Ianda-fits x = Header-fits (x .header) × Base-fits (x .base) × (length (x .template) ≡ 32)
 
+-- of a privilege or an authorisation certificate
 abbrev pub Privilege-fits : {C : Type 0} → (C → ℕ) → Privilege C → Type 0
 Privilege-fits numberOf x = Header-fits (x .header) × Base-fits (x .base) × Fits (numberOf (x .clearance))
 

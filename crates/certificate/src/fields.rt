@@ -2,7 +2,7 @@
 use crate::role::Role;
 
 // The pair that names a certificate: who issued it, and its serial number.
-#[derive(Clone, Copy, PartialEq, Eq)]
+#[derive(Clone, Copy)]
 pub struct Identity {
     pub issuer: u32,
     pub serial: u32,

@@ -1,9 +1,7 @@
 // Privilege certificates, and authorisation certificates, which have the same form.
 ghost use mathlib.Core.Path.{_≡_};
-ghost use Prim.Native.Nat.{_≤_};
 ghost use Rattle.certificate.specs.Certificates.{Answers, privilege-of};
 ghost use Rattle.certificate.specs.Fields.{privilege-bytes};
-ghost use Rattle.certificate.specs.Written.{written};
 use crate::body::kinds::NumbersBody;
 use crate::body::read::certificate as read_certificate;
 use crate::certificate::Certificate;
@@ -11,8 +9,6 @@ use crate::fault::Refusal;
 use crate::field_writing::based;
 use crate::fields::Privilege;
 use crate::fields::Reading;
-use crate::finish::certificate;
-use crate::finish::message;
 use crate::judge::judge;
 use crate::numbers::Numbers;
 use crate::writer::Writer;
@@ -31,32 +27,15 @@ impl<C: Clearance> Privilege<C> {
             mark: x.mark,
         })
     }
-
-    fn body(self) -> Writer
-        ensures bytes { λ r. ⌜ written r ≡ privilege-bytes (C·Clearance .numberOf) self ⌝ }
-        ensures len { λ r. ⌜ r .len ≤ 83 ⌝ }
-    {
-        let mut w = based(self.header, self.base);
-        w.number(self.role.number());
-        w.number(self.clearance.number());
-        w
-    }
 }
 
 pub impl<C: Clearance> Certificate for Privilege<C> as PrivilegeCertificate {
     ghost fieldBytes = { privilege-bytes (C·Clearance .numberOf) };
 
-    ghost issuedBy = { λ x. x .header .identity .issuer };
-
-    fn issuer(self) -> u32 {
-        self.header.identity.issuer
-    }
-
-    fn message(self, out: &mut [u8; 128]) -> usize {
-        message(&self.body(), out)
-    }
-
-    fn write(self, mark: [u8; 32], out: &mut [u8; 128]) -> usize {
-        certificate(&self.body(), &mark, out)
+    fn fields(self) -> Writer {
+        let mut w = based(self.header, self.base);
+        w.number(self.role.number());
+        w.number(self.clearance.number());
+        w
     }
 }

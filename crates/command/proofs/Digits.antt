@@ -1,4 +1,4 @@
--- Decimal and hex digits. Assumes nothing.
+-- Decimal and hex digits.
 use mathlib.Core.Path.{_≡_, refl, sym, ap, _∙_}
 use mathlib.Core.List.{List, [], _∷_, _++_, map, append-assoc, append-nil}
 use mathlib.Core.Bool.{Bool, true, false, cond, _&&_}
@@ -14,7 +14,7 @@ use Rattle.std.proofs.shelf.Tests.{and-parts, and-left, and-right, leb-true, co
 use Rattle.std.specs.Options.{valueOr}
 use Rattle.std.specs.shelf.Digits.{number}
 use Rattle.std.specs.declared.option.Option.the-variants.{Some, None}
-use Rattle.command.specs.Words.{all, isDigit, decimalOf, isNumber, numberOf, hexDigit, isHex, nibble, unhex, printOf}
+use Rattle.command.specs.Words.{all, isDigit, decimalOf, isNumber, numberOf, hexDigit, isHex, nibble, unhex, bytes32Of}
 
 module _ {A : Type 0} (p : A → Bool) where
   pub all-append : (xs ys : List A) → all p xs ≡ true → all p ys ≡ true → all p (xs ++ ys) ≡ true
@@ -150,14 +150,14 @@ unfolding numberOf isNumber
 number-good w h k a d = rw (le-leb 1 (length w) h, le-leb (length w) 10 k, a, le-leb (decimalOf w) 4294967295 d)
 
 -- when a word is a print
-pub print-no-length : (w : List ℕ) → (length w ≡ 64 → ⊥) → None ≡ printOf w
-unfolding printOf
+pub print-no-length : (w : List ℕ) → (length w ≡ 64 → ⊥) → None ≡ bytes32Of w
+unfolding bytes32Of
 print-no-length w h = sym (cond-false _ _ _ (and-left (eqb (length w) 64) _ (ne-eqb (length w) 64 h)))
 
-pub print-no-hex : (w : List ℕ) → all isHex w ≡ false → None ≡ printOf w
-unfolding printOf
+pub print-no-hex : (w : List ℕ) → all isHex w ≡ false → None ≡ bytes32Of w
+unfolding bytes32Of
 print-no-hex w h = sym (cond-false _ _ _ (and-right (eqb (length w) 64) _ h))
 
-pub print-good : (w : List ℕ) → length w ≡ 64 → all isHex w ≡ true → Some (unhex w) ≡ printOf w
-unfolding printOf
-print-good w h k = rw (eq-eqb (length w) 64 h, k)
+pub bytes32-good : (w : List ℕ) → length w ≡ 64 → all isHex w ≡ true → Some (unhex w) ≡ bytes32Of w
+unfolding bytes32Of
+bytes32-good w h k = rw (eq-eqb (length w) 64 h, k)

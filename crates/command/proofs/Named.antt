@@ -1,4 +1,4 @@
--- Keys that words give. Assumes nothing.
+-- Keys that words give.
 use mathlib.Core.Path.{_≡_, refl, sym, ap, _∙_}
 use mathlib.Core.List.{List, [], _∷_, _++_, append-assoc, append-nil}
 use mathlib.Core.Bool.{Bool, true, false}
@@ -15,7 +15,7 @@ use Rattle.std.specs.shelf.Lists.{leading}
 use Rattle.std.specs.declared.option.Option.{Option}
 use Rattle.std.specs.declared.option.Option.the-variants.{Some, None}
 use Rattle.command.specs.declared.keys.Key.{Key}
-use Rattle.command.specs.Words.{all, numberOf, printOf}
+use Rattle.command.specs.Words.{all, numberOf, bytes32Of}
 use Rattle.command.specs.Keys.{notColon, named, keyOf, allKeys, keysIn}
 use Rattle.command.specs.Reading.{nextWord}
 
@@ -27,7 +27,7 @@ named-none (Some n) = refl
 module _ (w : List ℕ) (n : ℕ) (e : n ≡ leading notColon w) where
   -- no colon
   pub key-no-colon : n ≡ length w → None ≡ keyOf w
-  unfolding keyOf printOf
+  unfolding keyOf bytes32Of
   key-no-colon h =
       let d : drop (leading notColon w + 1) w ≡ [] = drop-all (leading notColon w + 1) w (omega arith) in
       rw d (sym (named-none (numberOf (take (leading notColon w) w))))
@@ -40,18 +40,18 @@ module _ (w : List ℕ) (n : ℕ) (e : n ≡ leading notColon w) where
       rw k
 
   -- no key
-  pub key-no-key : None ≡ printOf (between (n + 1) (length w) w) → None ≡ keyOf w
+  pub key-no-key : None ≡ bytes32Of (between (n + 1) (length w) w) → None ≡ keyOf w
   unfolding keyOf
   key-no-key h =
-      let k : printOf (drop (leading notColon w + 1) w) ≡ None = ap (λ i. printOf (drop (i + 1) w)) (sym e) ∙ ap printOf (sym (take-rest w (n + 1))) ∙ sym h in
+      let k : bytes32Of (drop (leading notColon w + 1) w) ≡ None = ap (λ i. bytes32Of (drop (i + 1) w)) (sym e) ∙ ap bytes32Of (sym (take-rest w (n + 1))) ∙ sym h in
       rw k (sym (named-none (numberOf (take (leading notColon w) w))))
 
-  pub key-good : (name : ℕ) (key : List ℕ) → Some name ≡ numberOf (take (n - 0) w) → Some key ≡ printOf (between (n + 1) (length w) w)
+  pub key-good : (name : ℕ) (key : List ℕ) → Some name ≡ numberOf (take (n - 0) w) → Some key ≡ bytes32Of (between (n + 1) (length w) w)
       → Some (record { name = name; key = key }) ≡ keyOf w
   unfolding keyOf named
   key-good name key g h =
       let j : numberOf (take (leading notColon w) w) ≡ Some name = ap (λ i. numberOf (take i w)) (sym e ∙ sym (sub-zero n)) ∙ sym g in
-      let k : printOf (drop (leading notColon w + 1) w) ≡ Some key = ap (λ i. printOf (drop (i + 1) w)) (sym e) ∙ ap printOf (sym (take-rest w (n + 1))) ∙ sym h in
+      let k : bytes32Of (drop (leading notColon w + 1) w) ≡ Some key = ap (λ i. bytes32Of (drop (i + 1) w)) (sym e) ∙ ap bytes32Of (sym (take-rest w (n + 1))) ∙ sym h in
       rw (j, k)
 
 some-some : {A : Type 0} (x y : A) → Some x ≡ Some y → x ≡ y

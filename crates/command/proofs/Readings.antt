@@ -1,4 +1,4 @@
--- Reading words in turn. Assumes nothing.
+-- Reading words in turn.
 use mathlib.Core.Path.{_≡_, refl, sym, ap, _∙_}
 use mathlib.Core.List.{List, [], _∷_}
 use Prim.Native.Nat.{ℕ}

@@ -1,4 +1,4 @@
--- What the words of a line say. Assumes nothing.
+-- What the words of a line say.
 use mathlib.Core.Path.{_≡_, refl, sym, ap, _∙_}
 use mathlib.Core.List.{List, [], _∷_}
 use mathlib.Core.Bool.{Bool, true, false, cond}
@@ -9,7 +9,7 @@ use lib.ListN.{length, getD}
 use Rattle.std.proofs.shelf.Tests.{ne-eqb}
 use Rattle.std.specs.declared.option.Option.the-variants.{Some, None}
 use Rattle.command.specs.Reading.{Rest, nextWord}
-use Rattle.command.specs.Commands.{Line, nothing, placeAt, isRemark, commandLine, saysLine}
+use Rattle.command.specs.Commands.{Line, nothing, placeAt, isRemark, commandNamed, wordsSay}
 use Rattle.command.proofs.Named.{next-is, next-nil}
 
 -- no part has another number
@@ -27,10 +27,10 @@ unfolding isRemark
 remark-first [] h = absurd (omega arith)
 remark-first (b ∷ w) h = refl
 
-pub says-none : (ws : Rest) → nextWord ws ≡ None → Some nothing ≡ saysLine ws
-unfolding saysLine
-says-none ws h = sym (ap saysLine (next-nil ws h))
+pub says-none : (ws : Rest) → nextWord ws ≡ None → Some nothing ≡ wordsSay ws
+unfolding wordsSay
+says-none ws h = sym (ap wordsSay (next-nil ws h))
 
-pub says-word : (ws : Rest) (w : List ℕ) (rest : Rest) → nextWord ws ≡ Some (w, rest) → saysLine ws ≡ cond (isRemark w) (Some nothing) (commandLine w rest)
-unfolding saysLine
-says-word ws w rest h = ap saysLine (next-is ws w rest h)
+pub says-word : (ws : Rest) (w : List ℕ) (rest : Rest) → nextWord ws ≡ Some (w, rest) → wordsSay ws ≡ cond (isRemark w) (Some nothing) (commandNamed w rest)
+unfolding wordsSay
+says-word ws w rest h = ap wordsSay (next-is ws w rest h)

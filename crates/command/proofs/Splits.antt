@@ -1,4 +1,4 @@
--- How a text splits into words. Assumes nothing.
+-- How a text splits into words.
 use mathlib.Core.Path.{_≡_, refl, sym, ap, _∙_}
 use mathlib.Core.Logic.{inl, inr}
 use mathlib.Core.List.{List, [], _∷_, _++_, append-assoc, append-nil}

@@ -23,7 +23,7 @@ use Rattle.command.specs.declared.command.Command.{Command}
 use Rattle.command.specs.declared.command.Command.the-variants as command
 use Rattle.command.specs.Words.{words, numberOf, unhex}
 use Rattle.command.specs.Keys.{keysOf, keysIn, allKeys}
-use Rattle.command.specs.Reading.{Rest, followed, finished, wordBy, nextWord, nextLabel, nextNumber, nextHex, nextPrint}
+use Rattle.command.specs.Reading.{Rest, followed, finished, wordBy, nextWord, nextLabel, nextNumber, nextHex, nextBytes32}
 
 -- what a line says: a command, with the keys of a seal and the bytes of a part as values
 pub data Line : Type 0 where
@@ -33,7 +33,7 @@ pub data Line : Type 0 where
   card : List ℕ → ℕ → Bool → Line
   part : List ℕ → Place → List ℕ → Line
   id : List ℕ → IdFields → Line
-  privilege : List ℕ → Place → Grant → Line
+  grant : List ℕ → Place → Grant → Line
   ianda : List ℕ → IandaFields → Line
   shown : List ℕ → Line
 
@@ -45,7 +45,7 @@ said (command.Seal t) = seal (keysOf (now t))
 said (command.Card l n w) = card (now l) n w
 said (command.Part l p h) = part (now l) p (unhex (now h))
 said (command.Id l f) = id (now l) f
-said (command.Privilege l p f) = privilege (now l) p f
+said (command.Grant l p f) = grant (now l) p f
 said (command.Ianda l f) = ianda (now l) f
 said (command.Show l) = shown (now l)
 
@@ -111,77 +111,77 @@ nextGrant ws =
     Some (record { header = header; base = base; role = role; clearance = clearance }, ws4)))))
 
 -- clearance class | compartments
-unfoldable pub clearanceLine : Rest → Option Line
-clearanceLine ws =
+unfoldable pub clearanceCommand : Rest → Option Line
+clearanceCommand ws =
     followed (wordBy kindOf ws) (λ kind ws1.
     finished ws1 (clearance kind))
 
 -- seal hmac NAME:KEYHEX ...
-unfoldable pub sealLine : Rest → Option Line
-sealLine ws =
+unfoldable pub sealCommand : Rest → Option Line
+sealCommand ws =
     followed (wordBy hmacOf ws) (λ _ ws1.
     followed (nextWord ws1) (λ _ _.
     cond (allKeys ws1) (Some (seal (keysIn ws1))) None))
 
 -- card LABEL NUMBER writable | fixed
-unfoldable pub cardLine : Rest → Option Line
-cardLine ws =
+unfoldable pub cardCommand : Rest → Option Line
+cardCommand ws =
     followed (nextLabel ws) (λ label ws1.
     followed (nextNumber ws1) (λ number ws2.
     followed (wordBy writableOf ws2) (λ writable ws3.
     finished ws3 (card label number writable))))
 
 -- part LABEL K HEX
-unfoldable pub partLine : Rest → Option Line
-partLine ws =
+unfoldable pub partCommand : Rest → Option Line
+partCommand ws =
     followed (nextLabel ws) (λ label ws1.
     followed (wordBy placeOf ws1) (λ place ws2.
     followed (nextHex ws2) (λ hex ws3.
     finished ws3 (part label place (unhex hex)))))
 
 -- id LABEL ISSUER SERIAL FIRST LAST SUBJECT
-unfoldable pub idLine : Rest → Option Line
-idLine ws =
+unfoldable pub idCommand : Rest → Option Line
+idCommand ws =
     followed (nextLabel ws) (λ label ws1.
     followed (nextHeader ws1) (λ header ws2.
     followed (nextNumber ws2) (λ subject ws3.
     finished ws3 (id label (record { header = header; subject = subject })))))
 
 -- privilege LABEL, or authorisation LABEL, and the fields of a grant
-unfoldable pub grantLine : Place → Rest → Option Line
-grantLine place ws =
+unfoldable pub grantCommand : Place → Rest → Option Line
+grantCommand place ws =
     followed (nextLabel ws) (λ label ws1.
     followed (nextGrant ws1) (λ fields ws2.
-    finished ws2 (privilege label place fields)))
+    finished ws2 (grant label place fields)))
 
 -- ianda LABEL ISSUER SERIAL FIRST LAST BASEISSUER BASESERIAL CARD TEMPLATEHEX
-unfoldable pub iandaLine : Rest → Option Line
-iandaLine ws =
+unfoldable pub iandaCommand : Rest → Option Line
+iandaCommand ws =
     followed (nextLabel ws) (λ label ws1.
     followed (nextHeader ws1) (λ header ws2.
     followed (nextBase ws2) (λ base ws3.
-    followed (nextPrint ws3) (λ template ws4.
+    followed (nextBytes32 ws3) (λ template ws4.
     finished ws4 (ianda label (record { header = header; base = base; template = template }))))))
 
 -- show LABEL
-unfoldable pub showLine : Rest → Option Line
-showLine ws =
+unfoldable pub showCommand : Rest → Option Line
+showCommand ws =
     followed (nextLabel ws) (λ label ws1.
     finished ws1 (shown label))
 
 -- the words after the first, by that one
-unfoldable pub commandLine : List ℕ → Rest → Option Line
-commandLine name ws =
+unfoldable pub commandNamed : List ℕ → Rest → Option Line
+commandNamed name ws =
     chosen name (
-    (codes "clearance", clearanceLine ws) ∷
-    (codes "seal", sealLine ws) ∷
-    (codes "card", cardLine ws) ∷
-    (codes "part", partLine ws) ∷
-    (codes "id", idLine ws) ∷
-    (codes "privilege", grantLine place.Privilege ws) ∷
-    (codes "ianda", iandaLine ws) ∷
-    (codes "authorisation", grantLine place.Authorisation ws) ∷
-    (codes "show", showLine ws) ∷ [])
+    (codes "clearance", clearanceCommand ws) ∷
+    (codes "seal", sealCommand ws) ∷
+    (codes "card", cardCommand ws) ∷
+    (codes "part", partCommand ws) ∷
+    (codes "id", idCommand ws) ∷
+    (codes "privilege", grantCommand place.Privilege ws) ∷
+    (codes "ianda", iandaCommand ws) ∷
+    (codes "authorisation", grantCommand place.Authorisation ws) ∷
+    (codes "show", showCommand ws) ∷ [])
 
 -- a word that starts with `#`
 unfoldable pub isRemark : List ℕ → Bool
@@ -189,10 +189,10 @@ isRemark [] = false
 isRemark (b ∷ w) = eqb b 35
 
 -- no word or a remark does nothing
-unfoldable pub saysLine : Rest → Option Line
-saysLine [] = Some nothing
-saysLine (w ∷ ws) = cond (isRemark w) (Some nothing) (commandLine w ws)
+unfoldable pub wordsSay : Rest → Option Line
+wordsSay [] = Some nothing
+wordsSay (w ∷ ws) = cond (isRemark w) (Some nothing) (commandNamed w ws)
 
 -- what a line says; None where it is not understood
 unfoldable pub lineOf : List ℕ → Option Line
-lineOf line = saysLine (words line)
+lineOf line = wordsSay (words line)

@@ -10,7 +10,7 @@ use Rattle.std.specs.shelf.Lists.{leading}
 use Rattle.std.specs.declared.option.Option.{Option}
 use Rattle.std.specs.declared.option.Option.the-variants.{Some, None}
 use Rattle.command.specs.declared.keys.Key.{Key}
-use Rattle.command.specs.Words.{all, words, numberOf, printOf}
+use Rattle.command.specs.Words.{all, words, numberOf, bytes32Of}
 
 -- any byte but a colon
 unfoldable pub notColon : ℕ → Bool
@@ -24,7 +24,7 @@ named (Some n) (Some k) = Some (record { name = n; key = k })
 
 -- a word that gives a key: a number, a colon and 64 hex digits
 unfoldable pub keyOf : List ℕ → Option Key
-keyOf w = named (numberOf (take (leading notColon w) w)) (printOf (drop (leading notColon w + 1) w))
+keyOf w = named (numberOf (take (leading notColon w) w)) (bytes32Of (drop (leading notColon w + 1) w))
 
 -- each word gives a key
 unfoldable pub allKeys : List (List ℕ) → Bool

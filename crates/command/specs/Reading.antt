@@ -7,7 +7,7 @@ use Rattle.std.specs.Options.{mapped}
 use Rattle.std.specs.declared.option.Option.{Option}
 use Rattle.std.specs.declared.option.Option.the-variants.{Some, None}
 use Rattle.command.specs.declared.words.Words.{Words}
-use Rattle.command.specs.Words.{words, labelOf, numberOf, hexOf, printOf}
+use Rattle.command.specs.Words.{words, labelOf, numberOf, hexOf, bytes32Of}
 
 -- the words that are left to read
 abbrev pub Rest : Type 0
@@ -49,8 +49,8 @@ unfoldable pub nextHex : Rest → Option (List ℕ × Rest)
 nextHex ws = wordBy hexOf ws
 
 -- a print, 32 bytes as 64 hex digits
-unfoldable pub nextPrint : Rest → Option (List ℕ × Rest)
-nextPrint ws = wordBy printOf ws
+unfoldable pub nextBytes32 : Rest → Option (List ℕ × Rest)
+nextBytes32 ws = wordBy bytes32Of ws
 
 -- no word is left
 unfoldable pub noMore : Rest → Option (Unit {0} × Rest)

@@ -84,8 +84,8 @@ unfoldable pub hexOf : List ℕ → Option (List ℕ)
 hexOf w = cond (sameBytes w (codes "-")) (Some []) (cond (isHexText w) (Some w) None)
 
 -- the 32 bytes that 64 hex digits stand for
-unfoldable pub printOf : List ℕ → Option (List ℕ)
-printOf w = cond (eqb (length w) 64 && all isHex w) (Some (unhex w)) None
+unfoldable pub bytes32Of : List ℕ → Option (List ℕ)
+bytes32Of w = cond (eqb (length w) 64 && all isHex w) (Some (unhex w)) None
 
 -- a label is any word but `-`
 unfoldable pub labelOf : List ℕ → Option (List ℕ)

@@ -33,20 +33,20 @@ pub struct Grant {
     pub clearance: u32,
 }
 
-// A line that was understood. Texts are parts of the line.
+// A line that was understood.
 #[derive(Clone, Copy)]
 pub enum Command<'a> {
     // A line with no word, or a remark.
     Nothing,
     Clearance(Kind),
-    // The words that give the keys.
+    // The words of the keys, for `keys_of`.
     Seal(&'a [u8]),
     Card {
         label: &'a [u8],
         number: u32,
         writable: bool,
     },
-    // The bytes as hex digits.
+    // The bytes of the part, as digits for `bytes_of`.
     Part {
         label: &'a [u8],
         place: Place,
@@ -56,7 +56,8 @@ pub enum Command<'a> {
         label: &'a [u8],
         fields: Id,
     },
-    Privilege {
+    // A privilege or an authorisation certificate, by the part that it goes into.
+    Grant {
         label: &'a [u8],
         place: Place,
         fields: Grant,

@@ -5,7 +5,7 @@ ghost use Prim.Native.Nat.{_<_, _≤_, _/_};
 ghost use lib.ListN.{length, drop};
 ghost use Rattle.std.specs.Of.Vec.{vec-items};
 ghost use Rattle.std.specs.Vec.{made};
-ghost use Rattle.command.specs.Words.{all, hexDigit, isHex, nibble, unhex, isHexText, printOf};
+ghost use Rattle.command.specs.Words.{all, hexDigit, isHex, nibble, unhex, isHexText, bytes32Of};
 use std::alloc::AllocError;
 use std::alloc::Global;
 
@@ -71,8 +71,8 @@ pub fn bytes_of(heap: Global, hex: &[u8]) -> Result<Vec<u8>, AllocError>
 }
 
 // The 32 bytes that a word of 64 hex digits stands for.
-pub(crate) fn print_of(word: &[u8]) -> Option<[u8; 32]>
-    ensures { λ r. ⌜ r ≡ printOf (now (word .entry)) ⌝ }
+pub(crate) fn bytes32_of(word: &[u8]) -> Option<[u8; 32]>
+    ensures { λ r. ⌜ r ≡ bytes32Of (now (word .entry)) ⌝ }
 {
     if word.len() != 64 {
         return None;

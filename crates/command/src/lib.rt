@@ -1,4 +1,4 @@
-// What a line of a day script says.
+// What a line of a script says.
 mod command;
 mod hex;
 mod keys;

@@ -1,4 +1,4 @@
-// Reads a day script from standard input, carries it out and prints the account.
+// Reads a script from standard input, carries it out and prints the account.
 use script::replay_all;
 use std::error::AnyError;
 use std::io::Read;

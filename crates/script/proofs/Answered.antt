@@ -1,4 +1,4 @@
--- What holds of a result that is there. Assumes nothing.
+-- What holds of a result that is there.
 use mathlib.Core.Path.{_≡_, sym}
 use mathlib.Core.List.{List, [], _++_}
 use Prim.Native.Nat.{ℕ}

@@ -1,4 +1,4 @@
--- What a buffer holds after a writing. Assumes nothing.
+-- What a buffer holds after a writing.
 use mathlib.Core.Path.{_≡_, refl, sym, ap, _∙_}
 use mathlib.Core.List.{List, _++_}
 use Prim.Native.Nat.{ℕ, _-_, _≤_}

@@ -1,4 +1,4 @@
--- Looking up keys. Assumes nothing.
+-- Looking up keys.
 use mathlib.Core.Path.{_≡_, refl, sym, ap, _∙_}
 use mathlib.Core.Bool.{Bool, true, false, cond, not, _&&_}
 use mathlib.Core.List.{List, [], _∷_}

@@ -1,4 +1,4 @@
--- Steps on the card of a label. Assumes nothing.
+-- Steps on the card of a label.
 use mathlib.Core.Path.{_≡_, refl, sym}
 use mathlib.Core.Bool.{true, false}
 use mathlib.Core.List.{List}

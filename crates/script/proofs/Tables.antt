@@ -1,4 +1,4 @@
--- Finding cards. Assumes nothing.
+-- Finding cards.
 use mathlib.Core.Path.{_≡_, refl, sym, ap, _∙_}
 use mathlib.Core.Bool.{Bool, true, false, cond}
 use mathlib.Core.List.{List, [], _∷_, map}

@@ -8,7 +8,7 @@ use Rattle.account.specs.declared.reason.Reason.the-variants.{NotUnderstood}
 use Rattle.account.specs.Texts.{refusedLine}
 use Rattle.certificate.specs.Fields.{id-bytes, ianda-bytes}
 use Rattle.command.specs.declared.command.Place.the-variants as place
-use Rattle.command.specs.Commands.{Line, nothing, clearance, seal, card, part, id, privilege, ianda, shown, lineOf}
+use Rattle.command.specs.Commands.{Line, nothing, clearance, seal, card, part, id, grant, ianda, shown}
 use Rattle.script.specs.Cards.{cardNamed}
 use Rattle.script.specs.Issues.{sealedBody}
 use Rattle.script.specs.Sessions.{SessionView, Step, cardStep, putStep, partStep, grantStep, onCard, shownText}
@@ -21,7 +21,7 @@ carriedOut s (seal ks) = (record { kind = s .kind; keys = ks; cards = s .cards }
 carriedOut s (card label number writable) = cardStep s label number writable
 carriedOut s (part label place bytes) = partStep s label place bytes
 carriedOut s (id label x) = putStep s label place.Id (sealedBody (s .keys) (x .header .identity .issuer) (id-bytes x))
-carriedOut s (privilege label place g) = grantStep s label place g
+carriedOut s (grant label place g) = grantStep s label place g
 carriedOut s (ianda label x) = putStep s label place.Ianda (sealedBody (s .keys) (x .header .identity .issuer) (ianda-bytes x))
 carriedOut s (shown label) = onCard s (cardNamed (s .cards) label) (s, None)
 
@@ -33,7 +33,7 @@ accountOf s (seal ks) = []
 accountOf s (card label number writable) = []
 accountOf s (part label place bytes) = []
 accountOf s (id label x) = []
-accountOf s (privilege label place g) = []
+accountOf s (grant label place g) = []
 accountOf s (ianda label x) = []
 accountOf s (shown label) = shownText s (cardNamed (s .cards) label)
 

@@ -41,6 +41,6 @@ unfoldable pub goodUnder : Option (List ℕ) → List ℕ → List ℕ → Verdi
 goodUnder None message mark = Bad
 goodUnder (Some key) message mark = cond (sameBytes (hmac key message) mark) Good Bad
 
--- what keys make of a mark; nothing where they make no seal
+-- what keys make of a mark; unchecked where they make no seal
 unfoldable pub verdictOf : List Key → ℕ → List ℕ → List ℕ → Verdict
 verdictOf ks issuer message mark = cond (makesSeal ks) (goodUnder (keyNamed ks issuer) message mark) Unchecked

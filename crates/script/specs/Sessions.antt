@@ -49,6 +49,7 @@ unfoldable pub cardAdded : SessionView → CardView → Option CardView → Step
 cardAdded s c (Some other) = (s, Some CardNamedBefore)
 cardAdded s c None = (withCards s (s .cards ++ (c ∷ [])), None)
 
+-- `card`
 unfoldable pub cardStep : SessionView → List ℕ → ℕ → Bool → Step
 cardStep s label number writable = cardAdded s (newCard label number writable) (cardNamed (s .cards) label)
 
@@ -57,11 +58,11 @@ unfoldable pub onCard : SessionView → Option CardView → Step → Step
 onCard s None step = (s, Some NoSuchCard)
 onCard s (Some c) step = step
 
--- the part is put into the card of the label
+-- the part is put into the card of the label, if there is one
 unfoldable pub putStep : SessionView → List ℕ → Place → List ℕ → Step
 putStep s label place bytes = onCard s (cardNamed (s .cards) label) (withCards s (partPut (s .cards) label place bytes), None)
 
--- a part of at most 128 bytes
+-- `part`: of at most 128 bytes
 unfoldable pub partStep : SessionView → List ℕ → Place → List ℕ → Step
 partStep s label place bytes =
     onCard s (cardNamed (s .cards) label) (cond (leb (length bytes) 128) (putStep s label place bytes) (s, Some Declined25))
@@ -77,6 +78,7 @@ grantBy s label place g None = (s, Some NoClearanceKind)
 grantBy s label place g (Some Class) = grantPut s label place (grantBytes classOf classNumber (s .keys) g)
 grantBy s label place g (Some Compartments) = grantPut s label place (grantBytes compartmentsOf compartmentsNumber (s .keys) g)
 
+-- `privilege` and `authorisation`
 unfoldable pub grantStep : SessionView → List ℕ → Place → Grant → Step
 grantStep s label place g = onCard s (cardNamed (s .cards) label) (grantBy s label place g (s .kind))
 

@@ -26,9 +26,9 @@ use Rattle.script.specs.Cards.{CardView}
 use Rattle.script.specs.Marks.{verdictOf}
 
 -- a part that reads gives its line, and one that does not its fault
-unfoldable pub told : {T : Type 0} → (Sealed T → List ℕ) → Place → Result (Sealed T) Refusal → List ℕ
-told line p (Ok x) = line x
-told line p (Err e) = faultLine p (faultNumber (e .fault)) (e .at)
+unfoldable pub partText : {T : Type 0} → (Sealed T → List ℕ) → Place → Result (Sealed T) Refusal → List ℕ
+partText line p (Ok x) = line x
+partText line p (Err e) = faultLine p (faultNumber (e .fault)) (e .at)
 
 -- what the keys make of a certificate's mark, by its header
 unfoldable pub verdictOn : {T : Type 0} → List Key → Header → Sealed T → Verdict
@@ -36,16 +36,16 @@ verdictOn ks h x = verdictOf ks (h .identity .issuer) (x .message) (x .mark)
 
 -- part 1
 unfoldable pub idText : List Key → List ℕ → List ℕ
-idText ks bytes = told (λ x. idLine (x .fields) (verdictOn ks (x .fields .header) x)) place.Id (id-of bytes)
+idText ks bytes = partText (λ x. idLine (x .fields) (verdictOn ks (x .fields .header) x)) place.Id (id-of bytes)
 
 -- part 3
 unfoldable pub iandaText : List Key → List ℕ → List ℕ
-iandaText ks bytes = told (λ x. iandaLine (x .fields) (verdictOn ks (x .fields .header) x)) place.Ianda (ianda-of bytes)
+iandaText ks bytes = partText (λ x. iandaLine (x .fields) (verdictOn ks (x .fields .header) x)) place.Ianda (ianda-of bytes)
 
 -- part 2 or 4, over a clearance kind; role and clearance are shown as their numbers
 unfoldable pub grantText : {C : Type 0} → (ℕ → Option C) → (C → ℕ) → Place → List Key → List ℕ → List ℕ
 grantText ofNumber numberOf p ks bytes =
-    told (λ x.
+    partText (λ x.
     grantLine p
     (record { header = x .fields .header; base = x .fields .base; role = roleNumber (x .fields .role); clearance = numberOf (x .fields .clearance) })
     (verdictOn ks (x .fields .header) x))

@@ -24,17 +24,18 @@ fn front(bytes: &[u8; 128], n: usize) -> &[u8]
     &bytes[0..n]
 }
 
-// The certificate of these fields, with the mark of its issuer.
+// The certificate of these fields, with the mark of this issuer.
 pub(crate) fn issued<T: Certificate>(
     heap: Global,
     keys: &[Key],
+    issuer: u32,
     fields: T,
 ) -> Result<Vec<u8>, AllocError>
-    ensures { λ r. ⌜ made r (λ v. vec-items v ≡ sealedBody (now (keys .entry)) (T·Certificate .issuedBy fields) (T·Certificate .fieldBytes fields)) ⌝ }
+    ensures { λ r. ⌜ made r (λ v. vec-items v ≡ sealedBody (now (keys .entry)) issuer (T·Certificate .fieldBytes fields)) ⌝ }
 {
     let mut message = [0; 128];
     let n = fields.message(&mut message);
-    let mark = mark_by(keys, fields.issuer(), front(&message, n));
+    let mark = mark_by(keys, issuer, front(&message, n));
     let mut whole = [0; 128];
     let m = fields.write(mark, &mut whole);
     Vec::from_slice(heap, front(&whole, m))
@@ -60,6 +61,6 @@ pub(crate) fn issued_grant<C: Clearance>(
         role,
         clearance,
     };
-    let bytes = issued(heap, keys, fields)?;
+    let bytes = issued(heap, keys, grant.header.identity.issuer, fields)?;
     Ok(Some(bytes))
 }

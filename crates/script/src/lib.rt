@@ -1,4 +1,4 @@
-// A day script, carried out line by line.
+// A script, carried out line by line.
 mod card;
 mod issue;
 mod marks;

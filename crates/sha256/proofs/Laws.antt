@@ -168,7 +168,7 @@ after-blocks-one : (n : ℕ) (v : Words) (b p : List ℕ) → length b ≡ 64 �
 unfolding after-blocks
 after-blocks-one n v b p h = ap (λ x. after-blocks n (compressed v x) (drop 64 (b ++ p))) (take-at b p 64 h) ∙ ap (after-blocks n (compressed v b)) (drop-at b p 64 h)
 
--- a block that has been after-blocks
+-- a block that has been hashed
 pub after-one : (v : Words) (done : ℕ) (b rest : List ℕ) → length b ≡ 64 → digest-after v done (b ++ rest) ≡ digest-after (compressed v b) (done + 64) rest
 unfolding digest-after
 after-one v done b rest h =

@@ -4,6 +4,7 @@ ghost use Rattle.certificate.specs.Roles.{roleNumber, roleOf};
 use crate::role::Role;
 
 impl Role {
+    // The number by which a certificate has it.
     pub fn number(self) -> u32
         ensures { λ r. ⌜ r ≡ roleNumber self ⌝ }
     {

@@ -1,7 +1,7 @@
 // Reading a line.
 ghost use mathlib.Core.Path.{_≡_};
 ghost use Rattle.std.specs.Options.{mapped};
-ghost use Rattle.command.specs.Commands.{said, lineOf, commandLine, isRemark, clearanceLine, sealLine, cardLine, partLine, idLine, grantLine, iandaLine, showLine};
+ghost use Rattle.command.specs.Commands.{said, lineOf, commandNamed, isRemark, clearanceCommand, sealCommand, cardCommand, partCommand, idCommand, grantCommand, iandaCommand, showCommand};
 ghost use Rattle.command.specs.Reading.{wordsLeft};
 use crate::command::Command;
 use crate::command::Place;
@@ -13,7 +13,7 @@ use certificate::Id;
 
 // clearance class | compartments
 fn clearance<'a>(words: &mut Words<'a>) -> Option<Command<'a>>
-    ensures { λ r. ⌜ mapped said r ≡ clearanceLine (wordsLeft (now (words .entry))) ⌝ }
+    ensures { λ r. ⌜ mapped said r ≡ clearanceCommand (wordsLeft (now (words .entry))) ⌝ }
 {
     let kind = words.kind()?;
     words.end()?;
@@ -22,7 +22,7 @@ fn clearance<'a>(words: &mut Words<'a>) -> Option<Command<'a>>
 
 // seal hmac NAME:KEYHEX ...
 fn seal<'a>(words: &mut Words<'a>) -> Option<Command<'a>>
-    ensures { λ r. ⌜ mapped said r ≡ sealLine (wordsLeft (now (words .entry))) ⌝ }
+    ensures { λ r. ⌜ mapped said r ≡ sealCommand (wordsLeft (now (words .entry))) ⌝ }
 {
     words.hmac()?;
     let text = words.left;
@@ -35,7 +35,7 @@ fn seal<'a>(words: &mut Words<'a>) -> Option<Command<'a>>
 
 // card LABEL NUMBER writable | fixed
 fn card<'a>(words: &mut Words<'a>) -> Option<Command<'a>>
-    ensures { λ r. ⌜ mapped said r ≡ cardLine (wordsLeft (now (words .entry))) ⌝ }
+    ensures { λ r. ⌜ mapped said r ≡ cardCommand (wordsLeft (now (words .entry))) ⌝ }
 {
     let label = words.label()?;
     let number = words.number()?;
@@ -50,7 +50,7 @@ fn card<'a>(words: &mut Words<'a>) -> Option<Command<'a>>
 
 // part LABEL K HEX
 fn part<'a>(words: &mut Words<'a>) -> Option<Command<'a>>
-    ensures { λ r. ⌜ mapped said r ≡ partLine (wordsLeft (now (words .entry))) ⌝ }
+    ensures { λ r. ⌜ mapped said r ≡ partCommand (wordsLeft (now (words .entry))) ⌝ }
 {
     let label = words.label()?;
     let place = words.place()?;
@@ -61,7 +61,7 @@ fn part<'a>(words: &mut Words<'a>) -> Option<Command<'a>>
 
 // id LABEL ISSUER SERIAL FIRST LAST SUBJECT
 fn id<'a>(words: &mut Words<'a>) -> Option<Command<'a>>
-    ensures { λ r. ⌜ mapped said r ≡ idLine (wordsLeft (now (words .entry))) ⌝ }
+    ensures { λ r. ⌜ mapped said r ≡ idCommand (wordsLeft (now (words .entry))) ⌝ }
 {
     let label = words.label()?;
     let header = words.header()?;
@@ -75,12 +75,12 @@ fn id<'a>(words: &mut Words<'a>) -> Option<Command<'a>>
 
 // privilege LABEL, or authorisation LABEL, and the fields of a grant
 fn grant<'a>(words: &mut Words<'a>, place: Place) -> Option<Command<'a>>
-    ensures { λ r. ⌜ mapped said r ≡ grantLine place (wordsLeft (now (words .entry))) ⌝ }
+    ensures { λ r. ⌜ mapped said r ≡ grantCommand place (wordsLeft (now (words .entry))) ⌝ }
 {
     let label = words.label()?;
     let fields = words.grant()?;
     words.end()?;
-    Some(Command::Privilege {
+    Some(Command::Grant {
         label,
         place,
         fields,
@@ -89,12 +89,12 @@ fn grant<'a>(words: &mut Words<'a>, place: Place) -> Option<Command<'a>>
 
 // ianda LABEL ISSUER SERIAL FIRST LAST BASEISSUER BASESERIAL CARD TEMPLATEHEX
 fn ianda<'a>(words: &mut Words<'a>) -> Option<Command<'a>>
-    ensures { λ r. ⌜ mapped said r ≡ iandaLine (wordsLeft (now (words .entry))) ⌝ }
+    ensures { λ r. ⌜ mapped said r ≡ iandaCommand (wordsLeft (now (words .entry))) ⌝ }
 {
     let label = words.label()?;
     let header = words.header()?;
     let base = words.base()?;
-    let template = words.print()?;
+    let template = words.bytes32()?;
     words.end()?;
     Some(Command::Ianda {
         label,
@@ -108,7 +108,7 @@ fn ianda<'a>(words: &mut Words<'a>) -> Option<Command<'a>>
 
 // show LABEL
 fn show<'a>(words: &mut Words<'a>) -> Option<Command<'a>>
-    ensures { λ r. ⌜ mapped said r ≡ showLine (wordsLeft (now (words .entry))) ⌝ }
+    ensures { λ r. ⌜ mapped said r ≡ showCommand (wordsLeft (now (words .entry))) ⌝ }
 {
     let label = words.label()?;
     words.end()?;
@@ -117,7 +117,7 @@ fn show<'a>(words: &mut Words<'a>) -> Option<Command<'a>>
 
 // The words after the first, by that one.
 fn by_name<'a>(name: &[u8], words: &mut Words<'a>) -> Option<Command<'a>>
-    ensures { λ r. ⌜ mapped said r ≡ commandLine (now (name .entry)) (wordsLeft (now (words .entry))) ⌝ }
+    ensures { λ r. ⌜ mapped said r ≡ commandNamed (now (name .entry)) (wordsLeft (now (words .entry))) ⌝ }
 {
     if same(name, b"clearance") {
         clearance(words)

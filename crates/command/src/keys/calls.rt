@@ -7,7 +7,7 @@ ghost use Rattle.std.specs.Vec.{made};
 ghost use Rattle.std.specs.shelf.Lists.{leading};
 ghost use Rattle.command.specs.Keys.{keyOf, keysOf, allKeys, notColon};
 ghost use Rattle.command.specs.Words.{words};
-use crate::hex::print_of;
+use crate::hex::bytes32_of;
 use crate::keys::Key;
 use crate::number::decimal;
 use crate::words::Words;
@@ -36,7 +36,7 @@ fn key_of(word: &[u8]) -> Option<Key>
         return None;
     }
     let name = decimal(&word[0..n])?;
-    let key = print_of(&word[n + 1..word.len()])?;
+    let key = bytes32_of(&word[n + 1..word.len()])?;
     Some(Key { name, key })
 }
 

@@ -8,9 +8,9 @@ ghost use Rattle.std.specs.Slices.{found};
 ghost use Rattle.std.specs.shelf.Lists.{leading};
 ghost use Rattle.command.specs.Words.{blank, inWord};
 ghost use Rattle.std.specs.shelf.Text.{sameBytes};
-ghost use Rattle.command.specs.Reading.{Reads, wordsLeft, nextWord, nextLabel, nextNumber, nextPrint, nextHex, noMore};
+ghost use Rattle.command.specs.Reading.{Reads, wordsLeft, nextWord, nextLabel, nextNumber, nextBytes32, nextHex, noMore};
+use crate::hex::bytes32_of;
 use crate::hex::is_hex;
-use crate::hex::print_of;
 use crate::number::decimal;
 use crate::words::Words;
 
@@ -91,11 +91,11 @@ impl<'a> Words<'a> {
     }
 
     // The next word, which has 64 hex digits.
-    pub(crate) fn print(&mut self) -> Option<[u8; 32]>
-        ensures { λ r. ⌜ Reads (λ p. p) nextPrint (wordsLeft (now (self .entry))) (wordsLeft (now (self .exit))) r ⌝ }
+    pub(crate) fn bytes32(&mut self) -> Option<[u8; 32]>
+        ensures { λ r. ⌜ Reads (λ p. p) nextBytes32 (wordsLeft (now (self .entry))) (wordsLeft (now (self .exit))) r ⌝ }
     {
         let word = self.word()?;
-        print_of(word)
+        bytes32_of(word)
     }
 
     // The next word, which is hex; nothing for `-`.

@@ -1,7 +1,5 @@
 // Carrying out lines.
 ghost use mathlib.Core.Path.{_≡_};
-ghost use mathlib.Core.List.{List, _++_};
-ghost use Prim.Native.Nat.{ℕ};
 ghost use Rattle.std.specs.Of.Vec.{vec-items};
 ghost use Rattle.std.specs.Options.{isSome};
 ghost use Rattle.std.specs.Vec.{made};
@@ -110,11 +108,12 @@ impl Session {
         &mut self,
         label: &[u8],
         place: Place,
+        issuer: u32,
         fields: T,
     ) -> Result<Option<Reason>, AllocError>
-        ensures { λ r. ⌜ made r (λ why. (sessionView (now (self .exit)), why) ≡ putStep (sessionView (now (self .entry))) (now (label .entry)) place (sealedBody (vec-items (now (self .entry) .keys)) (T·Certificate .issuedBy fields) (T·Certificate .fieldBytes fields))) ⌝ }
+        ensures { λ r. ⌜ made r (λ why. (sessionView (now (self .exit)), why) ≡ putStep (sessionView (now (self .entry))) (now (label .entry)) place (sealedBody (vec-items (now (self .entry) .keys)) issuer (T·Certificate .fieldBytes fields))) ⌝ }
     {
-        let bytes = issued(self.cards.allocator(), self.keys.as_slice(), fields)?;
+        let bytes = issued(self.cards.allocator(), self.keys.as_slice(), issuer, fields)?;
         Ok(self.put(label, place, bytes))
     }
 

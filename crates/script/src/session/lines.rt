@@ -41,13 +41,19 @@ impl Session {
                 writable,
             } => self.add_card(label, number, writable),
             Command::Part { label, place, hex } => self.put_hex(label, place, hex),
-            Command::Id { label, fields } => self.put_certificate(label, Place::Id, fields),
-            Command::Privilege {
+            Command::Id { label, fields } => {
+                let issuer = fields.header.identity.issuer;
+                self.put_certificate(label, Place::Id, issuer, fields)
+            }
+            Command::Grant {
                 label,
                 place,
                 fields,
             } => self.put_grant_by_kind(label, place, fields),
-            Command::Ianda { label, fields } => self.put_certificate(label, Place::Ianda, fields),
+            Command::Ianda { label, fields } => {
+                let issuer = fields.header.identity.issuer;
+                self.put_certificate(label, Place::Ianda, issuer, fields)
+            }
             Command::Show { label } => self.show(label, out),
         }
     }

@@ -20,6 +20,5 @@ unfolding sealedBody
 returns g c =
     let t = filled-front _ _ _ _ (c .message-n .ensures) (c .message-n .array-long) .1 in
     let w = filled-front _ _ _ _ (c .write-m .ensures) (c .write-m .array-long) .1 in
-    let mark = c .mark-by-mark .ensures ∙ ap (markBy (c .args .keys .now) _) (c .front .ensures ∙ t)
-    ∙ ap (λ i. markBy (c .args .keys .now) i (message-of (g .T·Certificate .fieldBytes (c .args .fields)))) (c .issuer .ensures) in
+    let mark = c .mark-by-mark .ensures ∙ ap (markBy (c .args .keys .now) _) (c .front .ensures ∙ t) in
     made-same (c .from-slice .result) _ _ (c .from-slice .ensures .made) (c .front-2 .ensures ∙ w ∙ ap (certificate (g .T·Certificate .fieldBytes (c .args .fields))) mark)

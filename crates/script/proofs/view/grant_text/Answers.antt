@@ -1,10 +1,10 @@
-use Rattle.script.specs.Views.{grantText, told, verdictOn}
+use Rattle.script.specs.Views.{grantText, partText, verdictOn}
 use Rattle.script.proofs.view.grant_text.Needs as need
 
 pub returns-in-Ok : need.returns-in-Ok
-unfolding grantText told verdictOn
+unfolding grantText partText verdictOn
 returns-in-Ok g c = rw (c .in-Ok .ensures tt) (rw (c .verdict-found .ensures, c .number .ensures, c .number-in-Ok .ensures) at (c .grant-line .ensures))
 
 pub returns-in-Err : need.returns-in-Err
-unfolding grantText told
+unfolding grantText partText
 returns-in-Err g c = rw (c .in-Err .ensures tt) (rw (c .told-fault .ensures) at (c .fault-line .ensures))

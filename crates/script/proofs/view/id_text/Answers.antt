@@ -1,10 +1,10 @@
-use Rattle.script.specs.Views.{idText, told, verdictOn}
+use Rattle.script.specs.Views.{idText, partText, verdictOn}
 use Rattle.script.proofs.view.id_text.Needs as need
 
 pub returns-in-Ok : need.returns-in-Ok
-unfolding idText told verdictOn
+unfolding idText partText verdictOn
 returns-in-Ok c = rw (c .in-Ok .ensures tt) (rw (c .verdict-found .ensures) at (c .id-line .ensures))
 
 pub returns-in-Err : need.returns-in-Err
-unfolding idText told
+unfolding idText partText
 returns-in-Err c = rw (c .in-Err .ensures tt) (rw (c .told-fault .ensures) at (c .fault-line .ensures))

@@ -37,10 +37,10 @@ pub returns-in-Id : need.returns-in-Id
 unfolding carriedOut accountOf
 returns-in-Id c = rw (c .in-Id .is) (record { after = c .put-certificate .ensures; printed = made-none (c .put-certificate .result) (vec-items (c .args .out .now)) })
 
-pub returns-in-Privilege : need.returns-in-Privilege
+pub returns-in-Grant : need.returns-in-Grant
 unfolding carriedOut accountOf
-returns-in-Privilege c =
-    rw (c .in-Privilege .is) (record { after = c .put-grant-by-kind .ensures; printed = made-none (c .put-grant-by-kind .result) (vec-items (c .args .out .now)) })
+returns-in-Grant c =
+    rw (c .in-Grant .is) (record { after = c .put-grant-by-kind .ensures; printed = made-none (c .put-grant-by-kind .result) (vec-items (c .args .out .now)) })
 
 pub returns-in-Ianda : need.returns-in-Ianda
 unfolding carriedOut accountOf
