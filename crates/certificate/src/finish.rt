@@ -1,5 +1,4 @@
 // From the fields of a body to the sealed message and the certificate.
-ghost use mathlib.Core.Path.{_≡_};
 ghost use Prim.Native.Nat.{_≤_};
 ghost use Rattle.certificate.specs.Certificates.{message-of, certificate, Fills};
 ghost use Rattle.certificate.specs.Written.{written};

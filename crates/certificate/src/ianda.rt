@@ -1,5 +1,4 @@
 // I&A certificates.
-ghost use mathlib.Core.Path.{_≡_};
 ghost use Rattle.certificate.specs.Certificates.{Answers, ianda-of};
 ghost use Rattle.certificate.specs.Fields.{ianda-bytes};
 use crate::body::kinds::IandaBody;

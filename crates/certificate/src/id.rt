@@ -1,5 +1,4 @@
 // ID certificates.
-ghost use mathlib.Core.Path.{_≡_};
 ghost use Rattle.certificate.specs.Certificates.{Answers, id-of};
 ghost use Rattle.certificate.specs.Fields.{id-bytes};
 use crate::body::kinds::IdBody;

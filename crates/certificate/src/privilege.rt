@@ -1,5 +1,4 @@
 // Privilege certificates, and authorisation certificates, which have the same form.
-ghost use mathlib.Core.Path.{_≡_};
 ghost use Rattle.certificate.specs.Certificates.{Answers, privilege-of};
 ghost use Rattle.certificate.specs.Fields.{privilege-bytes};
 use crate::body::kinds::NumbersBody;

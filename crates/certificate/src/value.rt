@@ -1,6 +1,6 @@
 // The number that the contents of an INTEGER stand for, and its bytes.
 ghost use mathlib.Core.Path.{_≡_};
-ghost use Prim.Native.Nat.{_≤_, _<_, _^_, _*_};
+ghost use Prim.Native.Nat.{_≤_, _<_, _*_};
 ghost use lib.ListN.{length};
 ghost use Rattle.certificate.specs.Der.{shortest, value-of, content};
 

@@ -1,7 +1,7 @@
 -- Decimal and hex digits.
 use mathlib.Core.Path.{_≡_, refl, sym, ap, _∙_}
 use mathlib.Core.List.{List, [], _∷_, _++_, map, append-assoc, append-nil}
-use mathlib.Core.Bool.{Bool, true, false, cond, _&&_}
+use mathlib.Core.Bool.{Bool, true, false, _&&_}
 use Prim.Native.Nat.{ℕ, zero, suc, _+_, _-_, _*_, _/_, _^_, _<_, _≤_}
 use native.Mathlib.Nat.{pow-suc, pow-le-pow-right}
 use native.Mathlib.Numerals.{add-one}
@@ -119,13 +119,6 @@ unhex-all xs n e =
     let d : length (drop (2 * n) xs) ≤ 1 = rw (length-drop (2 * n) xs) (omega arith) in
     sym (ap unhex (sym (take-append-drop (2 * n) xs)) ∙ unhex-append n (take (2 * n) xs) (drop (2 * n) xs) t
     ∙ ap (λ v. unhex (take (2 * n) xs) ++ v) (unhex-short (drop (2 * n) xs) d) ∙ append-nil (unhex (take (2 * n) xs)))
-
--- hex stands for half as many bytes
-pub unhex-length : (xs : List ℕ) → length (unhex xs) ≡ length xs / 2
-unhex-length xs =
-    let n = length xs / 2 in
-    let t : length (take (2 * n) xs) ≡ 2 * n = length-take-le (2 * n) xs (omega arith) in
-    ap length (sym (unhex-all xs n refl)) ∙ length-unhex n (take (2 * n) xs) t
 
 -- when a word is a number
 pub number-empty : (w : List ℕ) → length w ≡ 0 → None ≡ numberOf w

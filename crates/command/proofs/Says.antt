@@ -1,7 +1,7 @@
 -- What the words of a line say.
-use mathlib.Core.Path.{_≡_, refl, sym, ap, _∙_}
+use mathlib.Core.Path.{_≡_, refl, sym, ap}
 use mathlib.Core.List.{List, [], _∷_}
-use mathlib.Core.Bool.{Bool, true, false, cond}
+use mathlib.Core.Bool.{false, cond}
 use Prim.Native.Nat.{ℕ, _<_}
 use native.Mathlib.Omega.{arith}
 use lib.Dec.{eqb}
@@ -9,7 +9,7 @@ use lib.ListN.{length, getD}
 use Rattle.std.proofs.shelf.Tests.{ne-eqb}
 use Rattle.std.specs.declared.option.Option.the-variants.{Some, None}
 use Rattle.command.specs.Reading.{Rest, nextWord}
-use Rattle.command.specs.Commands.{Line, nothing, placeAt, isRemark, commandNamed, wordsSay}
+use Rattle.command.specs.Commands.{nothing, placeAt, isRemark, commandNamed, wordsSay}
 use Rattle.command.proofs.Named.{next-is, next-nil}
 
 -- no part has another number

@@ -1,15 +1,14 @@
 -- The lines of a text.
 use mathlib.Core.Path.{_≡_, refl, sym, ap, _∙_}
-use mathlib.Core.Bool.{true, false, not, cond}
 use mathlib.Core.List.{List, [], _∷_, _++_}
 use mathlib.Core.Logic.{inl, inr}
-use Prim.Native.Nat.{ℕ, zero, suc, _+_, _<_, _≤_}
+use Prim.Native.Nat.{ℕ, suc, _+_, _<_}
 use native.Mathlib.Omega.{arith}
 use native.Mathlib.Numerals.{add-one, one-add}
 use lib.Dec.{eqb}
 use lib.ListN.{length, take, drop}
 use Rattle.std.specs.shelf.Lists.{leading}
-use Rattle.std.proofs.shelf.Lists.{append-assoc, append-nil, length-append, drop-all}
+use Rattle.std.proofs.shelf.Lists.{append-assoc, append-nil, length-append}
 use Rattle.std.proofs.shelf.Tests.{cases-bool}
 use Rattle.command.specs.Commands.{lineOf}
 use Rattle.script.specs.Lines.{sessionAfter, printedBy}

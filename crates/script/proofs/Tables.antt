@@ -1,19 +1,17 @@
 -- Finding cards.
-use mathlib.Core.Path.{_≡_, refl, sym, ap, _∙_}
-use mathlib.Core.Bool.{Bool, true, false, cond}
+use mathlib.Core.Path.{_≡_, refl, ap, _∙_}
+use mathlib.Core.Bool.{Bool, true, false}
 use mathlib.Core.List.{List, [], _∷_, map}
-use Prim.Native.Nat.{ℕ, zero, suc, _+_, _<_, _≤_}
+use Prim.Native.Nat.{ℕ, zero, suc, _+_, _<_}
 use borrow.Author.Count.{below-more}
 use native.Mathlib.Omega.{arith}
-use lib.ListN.{length, drop, getD, set}
+use lib.ListN.{length, getD, set}
 use Rattle.std.proofs.shelf.Lists.{getD-default}
 use Rattle.std.specs.shelf.Text.{sameBytes}
-use Rattle.std.specs.declared.option.Option.{Option}
 use Rattle.std.specs.declared.option.Option.the-variants.{Some, None}
 use Rattle.command.specs.declared.command.Place.{Place}
 use Rattle.script.specs.declared.card.Card.{Card}
-use Rattle.script.specs.Cards.{CardView, cardView, withPart, cardNamed, partPut}
-use Rattle.script.specs.Places.{At}
+use Rattle.script.specs.Cards.{cardView, withPart, cardNamed, partPut}
 
 -- the labels before i are others
 abbrev pub Others : List Card → List ℕ → ℕ → Type 0

@@ -8,7 +8,6 @@ use Rattle.std.specs.declared.vec.Vec.{Vec}
 use Rattle.std.specs.declared.option.Option.{Option}
 use Rattle.std.specs.declared.option.Option.the-variants.{Some, None}
 use Rattle.certificate.specs.declared.role.Role.{Role}
-use Rattle.certificate.specs.declared.fields.Privilege.{Privilege}
 use Rattle.certificate.specs.Certificates.{message-of, certificate}
 use Rattle.certificate.specs.Fields.{privilege-bytes}
 use Rattle.certificate.specs.Roles.{roleOf}

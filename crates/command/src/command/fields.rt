@@ -1,5 +1,4 @@
 // The fields of certificates, a word each.
-ghost use mathlib.Core.Path.{_≡_};
 ghost use Rattle.command.specs.Commands.{nextIdentity, nextHeader, nextBase, nextGrant};
 ghost use Rattle.command.specs.Reading.{Reads, wordsLeft};
 use crate::command::Grant;

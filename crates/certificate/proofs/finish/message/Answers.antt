@@ -1,4 +1,4 @@
-use mathlib.Core.Path.{_≡_, _∙_}
+use mathlib.Core.Path.{_≡_}
 use Rattle.certificate.specs.Der.{wrap}
 use Rattle.certificate.specs.Written.{written}
 use Rattle.certificate.specs.Certificates.{message-of}

@@ -1,19 +1,13 @@
-use borrow.Author.Needs.{needs}
 use native.Mathlib.Omega.{arith}
 use native.Mathlib.Nat.{pow-succ'}
 use native.Mathlib.Numerals.{add-one}
 use mathlib.Core.Path.{_≡_, sym, ap, _∙_}
-use mathlib.Core.Bool.{true, false}
 use mathlib.Core.List.{List}
 use Prim.Native.Nat.{ℕ, _+_, _*_, _^_, _≤_}
-use lib.Dec.{leb}
 use lib.ListN.{length, take}
-use Rattle.std.specs.declared.option.Option.the-variants.{Some, None}
 use Rattle.std.specs.shelf.Digits.{number}
 use Rattle.std.proofs.shelf.Digits.{number-more}
 use Rattle.std.proofs.shelf.Lists.{take-all}
-use Rattle.std.proofs.shelf.Tests.{le-leb, lt-leb, and-from, and-left, and-right, cond-true, cond-false}
-use Rattle.certificate.specs.Der.{value-of, acceptable, shortest}
 use Rattle.certificate.proofs.Contents.{too-long, pow-byte, value-good, value-large, value-bad}
 use Rattle.certificate.proofs.value.value.Needs as need
 

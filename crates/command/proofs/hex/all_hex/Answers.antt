@@ -1,5 +1,4 @@
-use mathlib.Core.Path.{_≡_, refl, sym, ap, _∙_}
-use native.Mathlib.Omega.{arith}
+use mathlib.Core.Path.{refl, sym, ap, _∙_}
 use Rattle.std.proofs.shelf.Lists.{take-all}
 use Rattle.std.specs.Options.{isSome}
 use Rattle.command.specs.Words.{all, isHex}

@@ -1,8 +1,8 @@
-use mathlib.Core.Path.{_≡_, refl, sym, ap, _∙_}
+use mathlib.Core.Path.{_≡_, refl, ap, _∙_}
 use mathlib.Core.List.{_++_}
-use Prim.Native.Nat.{_/_, _+_, _*_}
+use Prim.Native.Nat.{_/_, _+_}
 use native.Mathlib.Omega.{arith}
-use lib.ListN.{length, drop, take, set}
+use lib.ListN.{length, drop}
 use Rattle.command.specs.Words.{unhex}
 use Rattle.command.proofs.Digits.{fill-more, unhex-all}
 use Rattle.command.proofs.hex.fill.Needs as need

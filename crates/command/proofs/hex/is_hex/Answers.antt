@@ -1,4 +1,3 @@
-use mathlib.Core.Path.{_≡_, ap}
 use Rattle.command.specs.Words.{isHexText}
 use Rattle.command.proofs.hex.is_hex.Needs as need
 

@@ -1,5 +1,4 @@
-use mathlib.Core.Path.{_≡_, ap, sym, subst, _∙_}
-use Prim.Native.Nat.{ℕ, _<_}
+use mathlib.Core.Path.{_≡_, ap, _∙_}
 use Rattle.std.specs.Options.{valueOr}
 use Rattle.command.specs.Words.{nibble}
 use Rattle.command.proofs.Digits.{nibble-small}

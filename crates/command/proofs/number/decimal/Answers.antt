@@ -1,11 +1,10 @@
 use mathlib.Core.Path.{_≡_, refl, sym, ap, _∙_}
-use Prim.Native.Nat.{_+_, _-_, _*_, _≤_, _<_}
-use mathlib.Core.Bool.{true, false}
+use Prim.Native.Nat.{_+_, _-_, _*_}
 use native.Mathlib.Omega.{arith}
-use lib.ListN.{length, getD, take}
+use lib.ListN.{getD}
 use Rattle.std.proofs.shelf.Lists.{take-all}
 use Rattle.std.specs.declared.option.Option.the-variants.{Some}
-use Rattle.command.specs.Words.{all, isDigit, decimalOf, numberOf}
+use Rattle.command.specs.Words.{all, isDigit, decimalOf}
 use Rattle.command.proofs.Digits.{all-more, all-no, decimal-more, ten-more, ten-below, digit-parts, number-empty, number-long, number-no-digit, number-large, number-good}
 use Rattle.command.proofs.number.decimal.Needs as need
 

@@ -1,9 +1,6 @@
 use native.Mathlib.Omega.{arith}
-use mathlib.Core.Path.{_≡_, sym, ap, _∙_}
-use mathlib.Core.List.{List}
-use Prim.Native.Nat.{ℕ}
-use Rattle.std.specs.Of.Vec.{vec-items}
-use Rattle.certificate.specs.Certificates.{certificate, message-of}
+use mathlib.Core.Path.{ap, _∙_}
+use Rattle.certificate.specs.Certificates.{certificate}
 use Rattle.script.specs.Issues.{sealedBody}
 use Rattle.script.specs.Marks.{markBy}
 use Rattle.script.proofs.Buffers.{filled-front, made-same}

@@ -1,4 +1,4 @@
-use mathlib.Core.Path.{_≡_, sym, ap, _∙_}
+use mathlib.Core.Path.{sym, ap}
 use Rattle.std.specs.declared.option.Option.the-variants.{Some}
 use Rattle.script.specs.Issues.{grantBytes, grantWith}
 use Rattle.script.proofs.issue.issued_grant.Needs as need

@@ -1,11 +1,11 @@
-use mathlib.Core.Path.{_≡_, sym, ap, _∙_}
+use mathlib.Core.Path.{sym, ap, _∙_}
 use mathlib.Core.List.{_++_}
 use native.Mathlib.Omega.{arith}
 use Prim.Native.Nat.{_+_}
 use lib.ListN.{length}
 use Rattle.std.proofs.shelf.Lists.{append-nil, length-drop}
 use Rattle.std.specs.Of.Vec.{vec-items}
-use Rattle.script.specs.Replays.{replayed, linesOf, printedFrom}
+use Rattle.script.specs.Replays.{replayed}
 use Rattle.script.specs.Sessions.{sessionView}
 use Rattle.script.proofs.Splits.{replay-step, printed-none}
 use Rattle.script.proofs.replay.replay_all.Needs as need

@@ -1,4 +1,3 @@
-use mathlib.Core.List.{_++_}
 use Rattle.account.specs.Texts.{cardLine}
 use Rattle.account.proofs.Appends.{after, last}
 use Rattle.command.specs.declared.command.Place.the-variants as place

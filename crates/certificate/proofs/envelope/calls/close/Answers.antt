@@ -1,5 +1,4 @@
 use Rattle.std.proofs.shelf.Results.{err-from-errBy}
-use mathlib.Core.Path.{sym}
 use Rattle.certificate.specs.Placed.{followed}
 use Rattle.certificate.specs.Certificates.{closed}
 use Rattle.certificate.proofs.envelope.calls.close.Needs as need

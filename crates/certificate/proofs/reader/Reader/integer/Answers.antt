@@ -1,4 +1,3 @@
-use native.Mathlib.Omega.{arith}
 use Rattle.std.proofs.shelf.Results.{err-from-errBy}
 use mathlib.Core.Path.{refl}
 use Rattle.certificate.specs.Der.{integer}

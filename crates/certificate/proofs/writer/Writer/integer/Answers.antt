@@ -1,7 +1,6 @@
 use native.Mathlib.Omega.{arith}
-use mathlib.Core.Path.{_≡_, sym, ap, _∙_}
+use mathlib.Core.Path.{ap, _∙_}
 use mathlib.Core.List.{_++_, _∷_, []}
-use lib.ListN.{length}
 use Rattle.std.proofs.shelf.Lists.{append-assoc}
 use Rattle.certificate.specs.Der.{content, encode-integer, wrap}
 use Rattle.certificate.specs.Written.{written}

@@ -1,7 +1,5 @@
 use borrow.Author.Needs.{needs}
 use mathlib.Core.Path.{refl}
-use Prim.Native.Nat.{_<_}
-use lib.ListN.{length}
 use Rattle.std.proofs.shelf.Lists.{take-more-set}
 use Rattle.certificate.proofs.writer.Writer.push.Needs as need
 

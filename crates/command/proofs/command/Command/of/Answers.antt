@@ -1,4 +1,3 @@
-use mathlib.Core.Path.{_≡_, sym, _∙_}
 use Rattle.command.specs.Commands.{lineOf}
 use Rattle.command.proofs.Says.{says-none, says-word}
 use Rattle.command.proofs.command.Command.of.Needs as need

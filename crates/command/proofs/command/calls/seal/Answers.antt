@@ -1,4 +1,4 @@
-use mathlib.Core.Path.{_≡_, sym, _∙_}
+use mathlib.Core.Path.{sym, _∙_}
 use Rattle.command.specs.Reading.{followed}
 use Rattle.command.specs.Keys.{keysOf}
 use Rattle.command.specs.Commands.{sealCommand}

@@ -1,4 +1,4 @@
-use mathlib.Core.Path.{_≡_, refl, sym, ap, _∙_}
+use mathlib.Core.Path.{sym, ap, _∙_}
 use Rattle.std.specs.Options.{isSome}
 use Rattle.command.proofs.Named.{all-keys-more, all-keys-no, all-keys-none}
 use Rattle.command.proofs.keys.calls.are_keys.Needs as need

@@ -1,4 +1,3 @@
-use mathlib.Core.Path.{_≡_, refl, sym, ap, _∙_}
 use Rattle.command.proofs.Named.{key-no-colon, key-no-name, key-no-key, key-good}
 use Rattle.command.proofs.keys.calls.key_of.Needs as need
 

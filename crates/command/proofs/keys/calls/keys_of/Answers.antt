@@ -1,4 +1,3 @@
-use mathlib.Core.Path.{_≡_, refl, sym, ap, _∙_}
 use Rattle.command.specs.Keys.{keysOf}
 use Rattle.command.proofs.Named.{pushed-more, passed-more, pushed-all}
 use Rattle.command.proofs.keys.calls.keys_of.Needs as need

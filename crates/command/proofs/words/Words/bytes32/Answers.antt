@@ -1,4 +1,4 @@
-use mathlib.Core.Path.{_≡_, refl, sym, ap, _∙_}
+use mathlib.Core.Path.{_∙_}
 use Rattle.command.specs.Reading.{nextBytes32}
 use Rattle.command.specs.Words.{bytes32Of}
 use Rattle.command.proofs.Readings.{by-word, by-none, mapped-same}

@@ -1,4 +1,4 @@
-use mathlib.Core.Path.{_≡_, refl, sym, ap, _∙_}
+use mathlib.Core.Path.{_≡_, sym, _∙_}
 use mathlib.Core.List.{[]}
 use denote.Ref.{now}
 use Rattle.std.specs.declared.option.Option.the-variants.{Some, None}

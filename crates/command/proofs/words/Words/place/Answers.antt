@@ -1,4 +1,4 @@
-use mathlib.Core.Path.{_≡_, _∙_}
+use mathlib.Core.Path.{_∙_}
 use Rattle.command.specs.Commands.{placeOf}
 use Rattle.command.proofs.Readings.{by-word, by-none, mapped-same}
 use Rattle.command.proofs.words.Words.place.Needs as need

@@ -1,4 +1,4 @@
-use mathlib.Core.Path.{_≡_, sym, refl, _∙_}
+use mathlib.Core.Path.{sym, refl, _∙_}
 use native.Mathlib.Omega.{arith}
 use Rattle.command.proofs.Splits.{next-some, next-none, after-shorter}
 use Rattle.command.proofs.words.Words.word.Needs as need

@@ -1,4 +1,4 @@
-use mathlib.Core.Path.{_≡_, _∙_}
+use mathlib.Core.Path.{_∙_}
 use Rattle.command.specs.Commands.{writableOf}
 use Rattle.command.proofs.Readings.{by-word, by-none, mapped-same}
 use Rattle.command.proofs.words.Words.writable.Needs as need

@@ -1,4 +1,4 @@
-use mathlib.Core.Path.{_≡_, ap, _∙_, sym}
+use mathlib.Core.Path.{ap, _∙_, sym}
 use Rattle.std.specs.declared.option.Option.the-variants.{Some}
 use Rattle.script.specs.Sessions.{sessionView, grantStep, grantBy}
 use Rattle.script.proofs.Steps.{on-none, on-some}

@@ -1,4 +1,4 @@
-use mathlib.Core.Path.{_≡_, ap, _∙_, sym, refl}
+use mathlib.Core.Path.{ap, _∙_, sym, refl}
 use Rattle.std.proofs.shelf.Lists.{append-nil}
 use Rattle.std.specs.declared.option.Option.the-variants.{Some}
 use Rattle.script.specs.Cards.{cardView}
