@@ -1,6 +1,10 @@
 // The fields of the certificates, and what a reading answers.
 use crate::role::Role;
 
+pub(crate) mod ianda_calls;
+pub(crate) mod id_calls;
+pub(crate) mod privilege_calls;
+
 // The pair that names a certificate: who issued it, and its serial number.
 #[derive(Clone, Copy)]
 pub struct Identity {

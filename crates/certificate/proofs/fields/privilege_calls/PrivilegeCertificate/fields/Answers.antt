@@ -1,7 +1,7 @@
 use native.Mathlib.Omega.{arith}
 use Rattle.std.proofs.shelf.Lists.{append-assoc}
 use Rattle.certificate.specs.Fields.{privilege-bytes}
-use Rattle.certificate.proofs.privilege.PrivilegeCertificate.fields.Needs as need
+use Rattle.certificate.proofs.fields.privilege_calls.PrivilegeCertificate.fields.Needs as need
 
 pub returns : need.returns
 unfolding privilege-bytes

@@ -1,6 +1,6 @@
 use native.Mathlib.Omega.{arith}
 use Rattle.certificate.specs.Fields.{id-bytes}
-use Rattle.certificate.proofs.id.IdCertificate.fields.Needs as need
+use Rattle.certificate.proofs.fields.id_calls.IdCertificate.fields.Needs as need
 
 pub returns : need.returns
 unfolding id-bytes

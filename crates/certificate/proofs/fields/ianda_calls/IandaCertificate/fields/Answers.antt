@@ -1,7 +1,7 @@
 use native.Mathlib.Omega.{arith}
 use Rattle.std.proofs.shelf.Lists.{append-assoc}
 use Rattle.certificate.specs.Fields.{ianda-bytes}
-use Rattle.certificate.proofs.ianda.IandaCertificate.fields.Needs as need
+use Rattle.certificate.proofs.fields.ianda_calls.IandaCertificate.fields.Needs as need
 
 pub returns : need.returns
 unfolding ianda-bytes
