@@ -8,9 +8,8 @@ use Rattle.certificate.specs.declared.fields.Base.{Base}
 use Rattle.certificate.specs.declared.fields.Header.{Header}
 use Rattle.certificate.specs.declared.fields.Ianda.{Ianda as IandaFields}
 use Rattle.certificate.specs.declared.fields.Id.{Id as IdFields}
-use Rattle.command.specs.declared.command.Grant.{Grant}
-use Rattle.command.specs.declared.command.Place.{Place}
-use Rattle.command.specs.declared.command.Place.the-variants.{Id, Privilege, Ianda, Authorisation}
+use Rattle.card.specs.declared.part.Part.{Part}
+use Rattle.card.specs.declared.part.Part.the-variants.{Id, Privilege, Ianda, Authorisation}
 use Rattle.account.specs.declared.reason.Reason.{Reason}
 use Rattle.account.specs.declared.reason.Reason.the-variants.{NotUnderstood, NoSuchCard, CardNamedBefore, NoClearanceKind, BadRoleOrClearance, Declined25}
 use Rattle.account.specs.declared.verdict.Verdict.{Verdict}
@@ -43,7 +42,7 @@ unfoldable pub baseText : Base → List ℕ
 baseText b = fieldText (codes "base-issuer") (b .identity .issuer) ++ fieldText (codes "base-serial") (b .identity .serial) ++ fieldText (codes "card") (b .card)
 
 -- how a line on a part begins
-abbrev pub placeText : Place → List ℕ
+abbrev pub placeText : Part → List ℕ
 placeText Id = codes "part 1 id:"
 placeText Privilege = codes "part 2 privilege:"
 placeText Ianda = codes "part 3 ianda:"
@@ -64,19 +63,19 @@ unfoldable pub idLine : IdFields → Verdict → List ℕ
 idLine c v = placeText Id ++ headerText (c .header) ++ fieldText (codes "subject") (c .subject) ++ markText v
 
 -- the line of a privilege or an authorisation certificate
-unfoldable pub grantLine : Place → Grant → Verdict → List ℕ
-grantLine p c v = placeText p ++ headerText (c .header) ++ baseText (c .base) ++ fieldText (codes "role") (c .role) ++ fieldText (codes "clearance") (c .clearance) ++ markText v
+unfoldable pub grantLine : Part → Header → Base → ℕ → ℕ → Verdict → List ℕ
+grantLine p h b role clearance v = placeText p ++ headerText h ++ baseText b ++ fieldText (codes "role") role ++ fieldText (codes "clearance") clearance ++ markText v
 
 -- the line of an I&A certificate
 unfoldable pub iandaLine : IandaFields → Verdict → List ℕ
 iandaLine c v = placeText Ianda ++ headerText (c .header) ++ baseText (c .base) ++ codes " template " ++ hexText (c .template) ++ markText v
 
 -- the line of a part whose bytes are no certificate: the fault's number, and where it is
-unfoldable pub faultLine : Place → ℕ → ℕ → List ℕ
+unfoldable pub faultLine : Part → ℕ → ℕ → List ℕ
 faultLine p fault at = placeText p ++ fieldText (codes "fault") fault ++ fieldText (codes "at") at ++ newline
 
 -- the line of a part for which there is no clearance kind
-unfoldable pub noKindLine : Place → List ℕ
+unfoldable pub noKindLine : Part → List ℕ
 noKindLine p = placeText p ++ codes " no clearance kind" ++ newline
 
 -- whether part 4 of a card can be written

@@ -11,28 +11,27 @@ use crate::out::number;
 use crate::out::text;
 use crate::reason::Reason;
 use crate::verdict::Verdict;
+use card::Part;
 use certificate::Base;
 use certificate::Header;
 use certificate::Ianda;
 use certificate::Id;
-use command::Grant;
-use command::Place;
 use std::alloc::AllocError;
 
 // The part's number and its name.
-fn title(place: Place) -> &'static [u8]
+fn title(place: Part) -> &'static [u8]
     ensures { λ r. ⌜ now r ≡ placeText place ⌝ }
 {
     match place {
-        Place::Id => b"part 1 id:",
-        Place::Privilege => b"part 2 privilege:",
-        Place::Ianda => b"part 3 ianda:",
-        Place::Authorisation => b"part 4 authorisation:",
+        Part::Id => b"part 1 id:",
+        Part::Privilege => b"part 2 privilege:",
+        Part::Ianda => b"part 3 ianda:",
+        Part::Authorisation => b"part 4 authorisation:",
     }
 }
 
 // How a line on a part begins.
-fn start(out: &mut Vec<u8>, place: Place) -> Result<(), AllocError>
+fn start(out: &mut Vec<u8>, place: Part) -> Result<(), AllocError>
     ensures { λ r. ⌜ made r (λ _. vec-items (now (out .exit)) ≡ vec-items (now (out .entry)) ++ placeText place) ⌝ }
 {
     text(out, title(place))
@@ -70,7 +69,7 @@ fn finish(out: &mut Vec<u8>, verdict: Verdict) -> Result<(), AllocError>
 pub fn id_line(out: &mut Vec<u8>, id: &Id, verdict: Verdict) -> Result<(), AllocError>
     ensures { λ r. ⌜ made r (λ _. vec-items (now (out .exit)) ≡ vec-items (now (out .entry)) ++ idLine (now (id .entry)) verdict) ⌝ }
 {
-    start(out, Place::Id)?;
+    start(out, Part::Id)?;
     header(out, &id.header)?;
     field(out, b"subject", id.subject as u64)?;
     finish(out, verdict)
@@ -79,17 +78,20 @@ pub fn id_line(out: &mut Vec<u8>, id: &Id, verdict: Verdict) -> Result<(), Alloc
 // The line of a privilege or an authorisation certificate.
 pub fn grant_line(
     out: &mut Vec<u8>,
-    place: Place,
-    grant: &Grant,
+    place: Part,
+    header_of: &Header,
+    base_of: &Base,
+    role: u32,
+    clearance: u32,
     verdict: Verdict,
 ) -> Result<(), AllocError>
-    ensures { λ r. ⌜ made r (λ _. vec-items (now (out .exit)) ≡ vec-items (now (out .entry)) ++ grantLine place (now (grant .entry)) verdict) ⌝ }
+    ensures { λ r. ⌜ made r (λ _. vec-items (now (out .exit)) ≡ vec-items (now (out .entry)) ++ grantLine place (now («header_of» .entry)) (now («base_of» .entry)) role clearance verdict) ⌝ }
 {
     start(out, place)?;
-    header(out, &grant.header)?;
-    base(out, &grant.base)?;
-    field(out, b"role", grant.role as u64)?;
-    field(out, b"clearance", grant.clearance as u64)?;
+    header(out, header_of)?;
+    base(out, base_of)?;
+    field(out, b"role", role as u64)?;
+    field(out, b"clearance", clearance as u64)?;
     finish(out, verdict)
 }
 
@@ -97,7 +99,7 @@ pub fn grant_line(
 pub fn ianda_line(out: &mut Vec<u8>, ianda: &Ianda, verdict: Verdict) -> Result<(), AllocError>
     ensures { λ r. ⌜ made r (λ _. vec-items (now (out .exit)) ≡ vec-items (now (out .entry)) ++ iandaLine (now (ianda .entry)) verdict) ⌝ }
 {
-    start(out, Place::Ianda)?;
+    start(out, Part::Ianda)?;
     header(out, &ianda.header)?;
     base(out, &ianda.base)?;
     text(out, b" template ")?;
@@ -106,7 +108,7 @@ pub fn ianda_line(out: &mut Vec<u8>, ianda: &Ianda, verdict: Verdict) -> Result<
 }
 
 // The line of a part whose bytes are no certificate: the fault's number, and the offset where it is.
-pub fn fault_line(out: &mut Vec<u8>, place: Place, fault: u32, at: usize) -> Result<(), AllocError>
+pub fn fault_line(out: &mut Vec<u8>, place: Part, fault: u32, at: usize) -> Result<(), AllocError>
     ensures { λ r. ⌜ made r (λ _. vec-items (now (out .exit)) ≡ vec-items (now (out .entry)) ++ faultLine place fault at) ⌝ }
 {
     start(out, place)?;
@@ -116,7 +118,7 @@ pub fn fault_line(out: &mut Vec<u8>, place: Place, fault: u32, at: usize) -> Res
 }
 
 // The line of a part for which there is no clearance kind.
-pub fn no_kind_line(out: &mut Vec<u8>, place: Place) -> Result<(), AllocError>
+pub fn no_kind_line(out: &mut Vec<u8>, place: Part) -> Result<(), AllocError>
     ensures { λ r. ⌜ made r (λ _. vec-items (now (out .exit)) ≡ vec-items (now (out .entry)) ++ noKindLine place) ⌝ }
 {
     start(out, place)?;

@@ -11,8 +11,8 @@ use Rattle.std.specs.declared.option.Option.the-variants.{Some, None}
 use Rattle.std.specs.declared.result.Result.{Result}
 use Rattle.std.specs.declared.result.Result.the-variants.{Ok, Err}
 use Rattle.certificate.specs.declared.fault.Refusal.{Refusal}
-use Rattle.certificate.specs.declared.role.Role.{Role}
-use Rattle.certificate.specs.declared.role.Role.the-variants.{UserOnly, Guard, SecurityOfficer, AuditManager}
+use Rattle.role.specs.declared.role.Role.{Role}
+use Rattle.role.specs.declared.role.Role.the-variants.{UserOnly, Guard, SecurityOfficer, AuditManager}
 use Rattle.certificate.specs.declared.fields.Identity.{Identity}
 use Rattle.certificate.specs.declared.fields.Header.{Header}
 use Rattle.certificate.specs.declared.fields.Base.{Base}
@@ -20,7 +20,7 @@ use Rattle.certificate.specs.declared.fields.Id.{Id}
 use Rattle.certificate.specs.declared.fields.Ianda.{Ianda}
 use Rattle.certificate.specs.declared.fields.Privilege.{Privilege}
 use Rattle.certificate.specs.declared.numbers.Numbers.{Numbers}
-use Rattle.certificate.specs.Roles.{roleNumber, roleOf}
+use Rattle.role.specs.Roles.{roleNumber, roleOf}
 use Rattle.certificate.specs.Der.{encode-integer, wrap}
 use Rattle.certificate.specs.Placed.{State, octets-at, sequence-at, end-at, ended, followed}
 use Rattle.certificate.specs.Fields.{id-at, ianda-at, placed-at, numbers-at, granted, judged, identity-bytes, header-bytes, base-bytes, id-bytes, ianda-bytes, privilege-bytes}

@@ -7,7 +7,7 @@ use Rattle.std.specs.declared.option.Option.{Option}
 use Rattle.std.specs.declared.option.Option.the-variants.{Some, None}
 use Rattle.certificate.specs.declared.fault.Refusal.{Refusal}
 use Rattle.certificate.specs.declared.fault.Fault.the-variants.{RoleOrClearance}
-use Rattle.certificate.specs.declared.role.Role.{Role}
+use Rattle.role.specs.declared.role.Role.{Role}
 use Rattle.certificate.specs.declared.fields.Identity.{Identity}
 use Rattle.certificate.specs.declared.fields.Header.{Header}
 use Rattle.certificate.specs.declared.fields.Base.{Base}
@@ -16,7 +16,7 @@ use Rattle.certificate.specs.declared.fields.Ianda.{Ianda}
 use Rattle.certificate.specs.declared.fields.Privilege.{Privilege}
 use Rattle.certificate.specs.declared.numbers.Placed.{Placed}
 use Rattle.certificate.specs.declared.numbers.Numbers.{Numbers}
-use Rattle.certificate.specs.Roles.{roleNumber, roleOf}
+use Rattle.role.specs.Roles.{roleNumber, roleOf}
 use Rattle.certificate.specs.Der.{encode-integer, wrap}
 use Rattle.certificate.specs.Placed.{State, number-at, octets-at, followed}
 

@@ -1,5 +1,4 @@
 pub mod Faults
-pub mod Roles
 pub mod Der
 pub mod Placed
 pub mod Written

@@ -1,5 +1,5 @@
 // The fields of the certificates, and what a reading answers.
-use crate::role::Role;
+use role::Role;
 
 pub(crate) mod ianda_calls;
 pub(crate) mod id_calls;

@@ -5,8 +5,8 @@ use crate::fault::Fault;
 use crate::fault::Refusal;
 use crate::fields::Privilege;
 use crate::numbers::Numbers;
-use crate::role::Role;
 use clearance::Clearance;
+use role::Role;
 
 pub(crate) fn judge<C: Clearance>(x: Numbers) -> Result<Privilege<C>, Refusal>
     ensures { λ r. ⌜ r ≡ judged (C·Clearance .ofNumber) x ⌝ }

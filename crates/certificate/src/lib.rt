@@ -13,7 +13,6 @@ mod laws;
 mod numbers;
 mod reader;
 mod region;
-mod role;
 mod value;
 mod writer;
 
@@ -31,5 +30,4 @@ pub use fields::ianda_calls::IandaCertificate;
 pub use fields::id_calls::IdCertificate;
 pub use fields::privilege_calls::PrivilegeCertificate;
 pub use laws::certificates_stand;
-pub use role::Role;
 pub use writer::Writer;

@@ -17,8 +17,8 @@ use Rattle.command.specs.declared.keys.Key.{Key as SealKey}
 use Rattle.command.specs.declared.command.Grant.{Grant}
 use Rattle.command.specs.declared.command.Kind.{Kind}
 use Rattle.command.specs.declared.command.Kind.the-variants.{Class, Compartments}
-use Rattle.command.specs.declared.command.Place.{Place}
-use Rattle.command.specs.declared.command.Place.the-variants as place
+use Rattle.card.specs.declared.part.Part.{Part}
+use Rattle.card.specs.declared.part.Part.the-variants as place
 use Rattle.command.specs.declared.command.Command.{Command}
 use Rattle.command.specs.declared.command.Command.the-variants as command
 use Rattle.command.specs.Words.{words, numberOf, unhex}
@@ -31,9 +31,9 @@ pub data Line : Type 0 where
   clearance : Kind → Line
   seal : List SealKey → Line
   card : List ℕ → ℕ → Bool → Line
-  part : List ℕ → Place → List ℕ → Line
+  part : List ℕ → Part → List ℕ → Line
   id : List ℕ → IdFields → Line
-  grant : List ℕ → Place → Grant → Line
+  grant : List ℕ → Part → Grant → Line
   ianda : List ℕ → IandaFields → Line
   shown : List ℕ → Line
 
@@ -63,7 +63,7 @@ unfoldable pub writableOf : List ℕ → Option Bool
 writableOf w = chosen w ((codes "writable", Some true) ∷ (codes "fixed", Some false) ∷ [])
 
 -- the part of a card that has a number, 1 to 4
-unfoldable pub placeAt : Option ℕ → Option Place
+unfoldable pub placeAt : Option ℕ → Option Part
 placeAt None = None
 placeAt (Some n) =
     cond (eqb n 1) (Some place.Id) (
@@ -72,7 +72,7 @@ placeAt (Some n) =
     cond (eqb n 4) (Some place.Authorisation) None)))
 
 -- a word that is such a number
-unfoldable pub placeOf : List ℕ → Option Place
+unfoldable pub placeOf : List ℕ → Option Part
 placeOf w = placeAt (numberOf w)
 
 -- the word `hmac`
@@ -148,7 +148,7 @@ idCommand ws =
     finished ws3 (id label (record { header = header; subject = subject })))))
 
 -- privilege LABEL, or authorisation LABEL, and the fields of a grant
-unfoldable pub grantCommand : Place → Rest → Option Line
+unfoldable pub grantCommand : Part → Rest → Option Line
 grantCommand place ws =
     followed (nextLabel ws) (λ label ws1.
     followed (nextGrant ws1) (λ fields ws2.

@@ -3,6 +3,7 @@ mod calls;
 mod fields;
 mod options;
 
+use card::Part;
 use certificate::Base;
 use certificate::Header;
 use certificate::Ianda;
@@ -13,15 +14,6 @@ use certificate::Id;
 pub enum Kind {
     Class,
     Compartments,
-}
-
-// A part of a card.
-#[derive(Clone, Copy)]
-pub enum Place {
-    Id,
-    Privilege,
-    Ianda,
-    Authorisation,
 }
 
 // The fields of a privilege or authorisation certificate, role and clearance as the numbers that were written.
@@ -49,7 +41,7 @@ pub enum Command<'a> {
     // The bytes of the part, as digits for `bytes_of`.
     Part {
         label: &'a [u8],
-        place: Place,
+        place: Part,
         hex: &'a [u8],
     },
     Id {
@@ -59,7 +51,7 @@ pub enum Command<'a> {
     // A privilege or an authorisation certificate, by the part that it goes into.
     Grant {
         label: &'a [u8],
-        place: Place,
+        place: Part,
         fields: Grant,
     },
     Ianda {

@@ -5,10 +5,10 @@ mod keys;
 mod number;
 mod words;
 
+pub use card::Part;
 pub use command::Command;
 pub use command::Grant;
 pub use command::Kind;
-pub use command::Place;
 pub use hex::bytes_of;
 pub use keys::Key;
 pub use keys::calls::keys_of;

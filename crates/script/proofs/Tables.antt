@@ -9,7 +9,7 @@ use lib.ListN.{length, getD, set}
 use Rattle.std.proofs.shelf.Lists.{getD-default}
 use Rattle.std.specs.shelf.Text.{sameBytes}
 use Rattle.std.specs.declared.option.Option.the-variants.{Some, None}
-use Rattle.command.specs.declared.command.Place.{Place}
+use Rattle.card.specs.declared.part.Part.{Part}
 use Rattle.script.specs.declared.card.Card.{Card}
 use Rattle.script.specs.Cards.{cardView, withPart, cardNamed, partPut}
 
@@ -24,7 +24,7 @@ named-at [] label i d h o e = absurd (omega arith)
 named-at (c ∷ cs) label zero d h o e = rw e
 named-at (c ∷ cs) label (suc i) d h o e = rw (o 0 d (omega arith)) (named-at cs label i d (omega arith) (λ k b l. o (suc k) b (omega arith)) e)
 
-pub put-at : (cs : List Card) (label : List ℕ) (i : ℕ) (d : Card) (p : Place) (bytes : List ℕ) → i < length cs → Others cs label i
+pub put-at : (cs : List Card) (label : List ℕ) (i : ℕ) (d : Card) (p : Part) (bytes : List ℕ) → i < length cs → Others cs label i
     → sameBytes (cardView (getD cs i d) .label) label ≡ true
     → partPut (map cardView cs) label p bytes ≡ set (map cardView cs) i (withPart (cardView (getD cs i d)) p bytes)
 unfolding partPut

@@ -6,8 +6,8 @@ use Rattle.std.specs.Of.Vec.{vec-items}
 use Rattle.std.specs.shelf.Text.{sameBytes}
 use Rattle.std.specs.declared.option.Option.{Option}
 use Rattle.std.specs.declared.option.Option.the-variants.{Some, None}
-use Rattle.command.specs.declared.command.Place.{Place}
-use Rattle.command.specs.declared.command.Place.the-variants as place
+use Rattle.card.specs.declared.part.Part.{Part}
+use Rattle.card.specs.declared.part.Part.the-variants as place
 use Rattle.script.specs.declared.card.Card.{Card}
 
 -- a card: its label, its number, whether part 4 can be written, and its four parts as bytes
@@ -38,7 +38,7 @@ abbrev pub newCard : List ℕ → ℕ → Bool → CardView
 newCard label number writable = record { label = label; number = number; writable = writable; id = []; privilege = []; ianda = []; authorisation = [] }
 
 -- the card with another part
-abbrev pub withPart : CardView → Place → List ℕ → CardView
+abbrev pub withPart : CardView → Part → List ℕ → CardView
 withPart c place.Id bytes = record { label = c .label; number = c .number; writable = c .writable; id = bytes; privilege = c .privilege; ianda = c .ianda; authorisation = c .authorisation }
 withPart c place.Privilege bytes = record { label = c .label; number = c .number; writable = c .writable; id = c .id; privilege = bytes; ianda = c .ianda; authorisation = c .authorisation }
 withPart c place.Ianda bytes = record { label = c .label; number = c .number; writable = c .writable; id = c .id; privilege = c .privilege; ianda = bytes; authorisation = c .authorisation }
@@ -50,6 +50,6 @@ cardNamed [] label = None
 cardNamed (c ∷ cs) label = cond (sameBytes (c .label) label) (Some c) (cardNamed cs label)
 
 -- the cards, where the first of a label gets another part
-unfoldable pub partPut : List CardView → List ℕ → Place → List ℕ → List CardView
+unfoldable pub partPut : List CardView → List ℕ → Part → List ℕ → List CardView
 partPut [] label place bytes = []
 partPut (c ∷ cs) label place bytes = cond (sameBytes (c .label) label) (withPart c place bytes ∷ cs) (c ∷ partPut cs label place bytes)

@@ -7,10 +7,10 @@ use Rattle.std.specs.declared.alloc.Global.{Global}
 use Rattle.std.specs.declared.vec.Vec.{Vec}
 use Rattle.std.specs.declared.option.Option.{Option}
 use Rattle.std.specs.declared.option.Option.the-variants.{Some, None}
-use Rattle.certificate.specs.declared.role.Role.{Role}
+use Rattle.role.specs.declared.role.Role.{Role}
 use Rattle.certificate.specs.Certificates.{message-of, certificate}
 use Rattle.certificate.specs.Fields.{privilege-bytes}
-use Rattle.certificate.specs.Roles.{roleOf}
+use Rattle.role.specs.Roles.{roleOf}
 use Rattle.command.specs.declared.command.Grant.{Grant}
 use Rattle.command.specs.declared.keys.Key.{Key}
 use Rattle.script.specs.Marks.{markBy}

@@ -7,7 +7,7 @@ use Rattle.account.specs.declared.reason.Reason.{Reason}
 use Rattle.account.specs.declared.reason.Reason.the-variants.{NotUnderstood}
 use Rattle.account.specs.Texts.{refusedLine}
 use Rattle.certificate.specs.Fields.{id-bytes, ianda-bytes}
-use Rattle.command.specs.declared.command.Place.the-variants as place
+use Rattle.card.specs.declared.part.Part.the-variants as place
 use Rattle.command.specs.Commands.{Line, nothing, clearance, seal, card, part, id, grant, ianda, shown}
 use Rattle.script.specs.Cards.{cardNamed}
 use Rattle.script.specs.Issues.{sealedBody}

@@ -4,7 +4,7 @@ use mathlib.Core.List.{List, map}
 use Prim.Native.Nat.{ℕ, _<_}
 use lib.ListN.{length, getD, set}
 use Rattle.std.specs.declared.option.Option.the-variants.{Some}
-use Rattle.command.specs.declared.command.Place.{Place}
+use Rattle.card.specs.declared.part.Part.{Part}
 use Rattle.script.specs.declared.card.Card.{Card}
 use Rattle.script.specs.Cards.{CardView, cardView, withPart, cardNamed, partPut}
 
@@ -13,4 +13,4 @@ pub record At (cards : List Card) (label : List ℕ) (i : ℕ) : Type 0 where
   pub within : i < length cards
   pub found : (c : CardView) × (cardNamed (map cardView cards) label ≡ Some c)
   pub card : (d : Card) → cardNamed (map cardView cards) label ≡ Some (cardView (getD cards i d))
-  pub put : (d : Card) (place : Place) (bytes : List ℕ) → partPut (map cardView cards) label place bytes ≡ set (map cardView cards) i (withPart (cardView (getD cards i d)) place bytes)
+  pub put : (d : Card) (place : Part) (bytes : List ℕ) → partPut (map cardView cards) label place bytes ≡ set (map cardView cards) i (withPart (cardView (getD cards i d)) place bytes)

@@ -15,7 +15,7 @@ use Rattle.clearance.specs.Compartments.{compartmentsOf, compartmentsNumber}
 use Rattle.command.specs.declared.command.Grant.{Grant}
 use Rattle.command.specs.declared.command.Kind.{Kind}
 use Rattle.command.specs.declared.command.Kind.the-variants.{Class, Compartments}
-use Rattle.command.specs.declared.command.Place.{Place}
+use Rattle.card.specs.declared.part.Part.{Part}
 use Rattle.command.specs.declared.keys.Key.{Key}
 use Rattle.script.specs.declared.session.Session.{Session}
 use Rattle.script.specs.Cards.{CardView, cardView, newCard, cardNamed, partPut}
@@ -59,27 +59,27 @@ onCard s None step = (s, Some NoSuchCard)
 onCard s (Some c) step = step
 
 -- the part is put into the card of the label, if there is one
-unfoldable pub putStep : SessionView → List ℕ → Place → List ℕ → Step
+unfoldable pub putStep : SessionView → List ℕ → Part → List ℕ → Step
 putStep s label place bytes = onCard s (cardNamed (s .cards) label) (withCards s (partPut (s .cards) label place bytes), None)
 
 -- `part`: of at most 128 bytes
-unfoldable pub partStep : SessionView → List ℕ → Place → List ℕ → Step
+unfoldable pub partStep : SessionView → List ℕ → Part → List ℕ → Step
 partStep s label place bytes =
     onCard s (cardNamed (s .cards) label) (cond (leb (length bytes) 128) (putStep s label place bytes) (s, Some Declined25))
 
 -- the bytes of a privilege or an authorisation certificate, if there are any
-unfoldable pub grantPut : SessionView → List ℕ → Place → Option (List ℕ) → Step
+unfoldable pub grantPut : SessionView → List ℕ → Part → Option (List ℕ) → Step
 grantPut s label place None = (s, Some BadRoleOrClearance)
 grantPut s label place (Some bytes) = putStep s label place bytes
 
 -- by the clearance kind, if one was chosen
-unfoldable pub grantBy : SessionView → List ℕ → Place → Grant → Option Kind → Step
+unfoldable pub grantBy : SessionView → List ℕ → Part → Grant → Option Kind → Step
 grantBy s label place g None = (s, Some NoClearanceKind)
 grantBy s label place g (Some Class) = grantPut s label place (grantBytes classOf classNumber (s .keys) g)
 grantBy s label place g (Some Compartments) = grantPut s label place (grantBytes compartmentsOf compartmentsNumber (s .keys) g)
 
 -- `privilege` and `authorisation`
-unfoldable pub grantStep : SessionView → List ℕ → Place → Grant → Step
+unfoldable pub grantStep : SessionView → List ℕ → Part → Grant → Step
 grantStep s label place g = onCard s (cardNamed (s .cards) label) (grantBy s label place g (s .kind))
 
 -- what `show` prints

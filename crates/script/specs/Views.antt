@@ -14,19 +14,19 @@ use Rattle.certificate.specs.declared.fields.Ianda.{Ianda}
 use Rattle.certificate.specs.declared.fields.Privilege.{Privilege}
 use Rattle.certificate.specs.Certificates.{Sealed, id-of, ianda-of, privilege-of}
 use Rattle.certificate.specs.Faults.{faultNumber}
-use Rattle.certificate.specs.Roles.{roleNumber}
+use Rattle.role.specs.Roles.{roleNumber}
 use Rattle.clearance.specs.Classes.{classOf, classNumber}
 use Rattle.clearance.specs.Compartments.{compartmentsOf, compartmentsNumber}
 use Rattle.command.specs.declared.command.Kind.{Kind}
 use Rattle.command.specs.declared.command.Kind.the-variants.{Class, Compartments}
-use Rattle.command.specs.declared.command.Place.{Place}
-use Rattle.command.specs.declared.command.Place.the-variants as place
+use Rattle.card.specs.declared.part.Part.{Part}
+use Rattle.card.specs.declared.part.Part.the-variants as place
 use Rattle.command.specs.declared.keys.Key.{Key}
 use Rattle.script.specs.Cards.{CardView}
 use Rattle.script.specs.Marks.{verdictOf}
 
 -- a part that reads gives its line, and one that does not its fault
-unfoldable pub partText : {T : Type 0} → (Sealed T → List ℕ) → Place → Result (Sealed T) Refusal → List ℕ
+unfoldable pub partText : {T : Type 0} → (Sealed T → List ℕ) → Part → Result (Sealed T) Refusal → List ℕ
 partText line p (Ok x) = line x
 partText line p (Err e) = faultLine p (faultNumber (e .fault)) (e .at)
 
@@ -43,16 +43,13 @@ unfoldable pub iandaText : List Key → List ℕ → List ℕ
 iandaText ks bytes = partText (λ x. iandaLine (x .fields) (verdictOn ks (x .fields .header) x)) place.Ianda (ianda-of bytes)
 
 -- part 2 or 4, over a clearance kind; role and clearance are shown as their numbers
-unfoldable pub grantText : {C : Type 0} → (ℕ → Option C) → (C → ℕ) → Place → List Key → List ℕ → List ℕ
+unfoldable pub grantText : {C : Type 0} → (ℕ → Option C) → (C → ℕ) → Part → List Key → List ℕ → List ℕ
 grantText ofNumber numberOf p ks bytes =
-    partText (λ x.
-    grantLine p
-    (record { header = x .fields .header; base = x .fields .base; role = roleNumber (x .fields .role); clearance = numberOf (x .fields .clearance) })
-    (verdictOn ks (x .fields .header) x))
-    p (privilege-of ofNumber bytes)
+    partText (λ x. grantLine p (x .fields .header) (x .fields .base) (roleNumber (x .fields .role)) (numberOf (x .fields .clearance)) (verdictOn ks (x .fields .header) x)) p
+    (privilege-of ofNumber bytes)
 
 -- the same over the kind that the script has chosen, if it has
-unfoldable pub kindText : Option Kind → Place → List Key → List ℕ → List ℕ
+unfoldable pub kindText : Option Kind → Part → List Key → List ℕ → List ℕ
 kindText None p ks bytes = noKindLine p
 kindText (Some Class) p ks bytes = grantText classOf classNumber p ks bytes
 kindText (Some Compartments) p ks bytes = grantText compartmentsOf compartmentsNumber p ks bytes

@@ -9,10 +9,10 @@ use crate::marks::mark_by;
 use certificate::Certificate;
 use certificate::Privilege;
 use certificate::PrivilegeCertificate;
-use certificate::Role;
 use clearance::Clearance;
 use command::Grant;
 use command::Key;
+use role::Role;
 use std::alloc::AllocError;
 use std::alloc::Global;
 

@@ -13,6 +13,7 @@ use account::grant_line;
 use account::ianda_line;
 use account::id_line;
 use account::no_kind_line;
+use card::Part;
 use certificate::Ianda;
 use certificate::Id;
 use certificate::Privilege;
@@ -21,10 +22,8 @@ use clearance::ClassClearance;
 use clearance::Clearance;
 use clearance::Compartments;
 use clearance::CompartmentsClearance;
-use command::Grant;
 use command::Key;
 use command::Kind;
-use command::Place;
 use std::alloc::AllocError;
 
 fn id_text(out: &mut Vec<u8>, keys: &[Key], bytes: &[u8]) -> Result<(), AllocError>
@@ -38,7 +37,7 @@ fn id_text(out: &mut Vec<u8>, keys: &[Key], bytes: &[u8]) -> Result<(), AllocErr
         }
         Err(e) => {
             let (fault, at) = e.told();
-            fault_line(out, Place::Id, fault, at)
+            fault_line(out, Part::Id, fault, at)
         }
     }
 }
@@ -54,14 +53,14 @@ fn ianda_text(out: &mut Vec<u8>, keys: &[Key], bytes: &[u8]) -> Result<(), Alloc
         }
         Err(e) => {
             let (fault, at) = e.told();
-            fault_line(out, Place::Ianda, fault, at)
+            fault_line(out, Part::Ianda, fault, at)
         }
     }
 }
 
 fn grant_text<C: Clearance>(
     out: &mut Vec<u8>,
-    place: Place,
+    place: Part,
     keys: &[Key],
     bytes: &[u8],
 ) -> Result<(), AllocError>
@@ -71,13 +70,17 @@ fn grant_text<C: Clearance>(
         Ok(x) => {
             let fields = x.fields;
             let found = verdict(keys, fields.header.identity.issuer, x.message, x.mark);
-            let grant = Grant {
-                header: fields.header,
-                base: fields.base,
-                role: fields.role.number(),
-                clearance: fields.clearance.number(),
-            };
-            grant_line(out, place, &grant, found)
+            let role = fields.role.number();
+            let clearance = fields.clearance.number();
+            grant_line(
+                out,
+                place,
+                &fields.header,
+                &fields.base,
+                role,
+                clearance,
+                found,
+            )
         }
         Err(e) => {
             let (fault, at) = e.told();
@@ -90,7 +93,7 @@ fn grant_text<C: Clearance>(
 fn kind_text(
     out: &mut Vec<u8>,
     kind: Option<Kind>,
-    place: Place,
+    place: Part,
     keys: &[Key],
     bytes: &[u8],
 ) -> Result<(), AllocError>
@@ -116,12 +119,12 @@ pub(crate) fn card_text(
 {
     card_line(out, card.label.as_slice(), card.number, card.writable)?;
     id_text(out, keys, card.id.as_slice())?;
-    kind_text(out, kind, Place::Privilege, keys, card.privilege.as_slice())?;
+    kind_text(out, kind, Part::Privilege, keys, card.privilege.as_slice())?;
     ianda_text(out, keys, card.ianda.as_slice())?;
     kind_text(
         out,
         kind,
-        Place::Authorisation,
+        Part::Authorisation,
         keys,
         card.authorisation.as_slice(),
     )

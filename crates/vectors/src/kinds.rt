@@ -11,8 +11,8 @@ use certificate::Privilege;
 use certificate::PrivilegeCertificate;
 use certificate::Reading;
 use certificate::Refusal;
-use certificate::Role;
 use clearance::Clearance;
+use role::Role;
 
 pub trait Kind: Certificate {
     // The fields of these numbers, in their order, and this template; nothing where a number is no role or no clearance.

@@ -4,10 +4,10 @@ ghost use Rattle.std.specs.Options.{mapped};
 ghost use Rattle.command.specs.Commands.{said, lineOf, commandNamed, isRemark, clearanceCommand, sealCommand, cardCommand, partCommand, idCommand, grantCommand, iandaCommand, showCommand};
 ghost use Rattle.command.specs.Reading.{wordsLeft};
 use crate::command::Command;
-use crate::command::Place;
 use crate::keys::calls::are_keys;
 use crate::words::Words;
 use crate::words::calls::same;
+use card::Part;
 use certificate::Ianda;
 use certificate::Id;
 
@@ -74,7 +74,7 @@ fn id<'a>(words: &mut Words<'a>) -> Option<Command<'a>>
 }
 
 // privilege LABEL, or authorisation LABEL, and the fields of a grant
-fn grant<'a>(words: &mut Words<'a>, place: Place) -> Option<Command<'a>>
+fn grant<'a>(words: &mut Words<'a>, place: Part) -> Option<Command<'a>>
     ensures { λ r. ⌜ mapped said r ≡ grantCommand place (wordsLeft (now (words .entry))) ⌝ }
 {
     let label = words.label()?;
@@ -130,11 +130,11 @@ fn by_name<'a>(name: &[u8], words: &mut Words<'a>) -> Option<Command<'a>>
     } else if same(name, b"id") {
         id(words)
     } else if same(name, b"privilege") {
-        grant(words, Place::Privilege)
+        grant(words, Part::Privilege)
     } else if same(name, b"ianda") {
         ianda(words)
     } else if same(name, b"authorisation") {
-        grant(words, Place::Authorisation)
+        grant(words, Part::Authorisation)
     } else if same(name, b"show") {
         show(words)
     } else {

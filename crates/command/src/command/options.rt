@@ -3,10 +3,10 @@ ghost use mathlib.Core.Path.{_≡_};
 ghost use Rattle.command.specs.Commands.{kindOf, writableOf, placeOf, hmacOf};
 ghost use Rattle.command.specs.Reading.{Reads, wordsLeft, wordBy};
 use crate::command::Kind;
-use crate::command::Place;
 use crate::number::decimal;
 use crate::words::Words;
 use crate::words::calls::same;
+use card::Part;
 
 fn kind_of(word: &[u8]) -> Option<Kind>
     ensures { λ r. ⌜ r ≡ kindOf (now (word .entry)) ⌝ }
@@ -39,14 +39,14 @@ fn hmac_of(word: &[u8]) -> Option<()>
 }
 
 // The part of a card that has this number.
-fn place_of(word: &[u8]) -> Option<Place>
+fn place_of(word: &[u8]) -> Option<Part>
     ensures { λ r. ⌜ r ≡ placeOf (now (word .entry)) ⌝ }
 {
     match decimal(word)? {
-        1 => Some(Place::Id),
-        2 => Some(Place::Privilege),
-        3 => Some(Place::Ianda),
-        4 => Some(Place::Authorisation),
+        1 => Some(Part::Id),
+        2 => Some(Part::Privilege),
+        3 => Some(Part::Ianda),
+        4 => Some(Part::Authorisation),
         _ => None,
     }
 }
@@ -77,7 +77,7 @@ impl<'a> Words<'a> {
     }
 
     // A part's number, 1 to 4.
-    pub(crate) fn place(&mut self) -> Option<Place>
+    pub(crate) fn place(&mut self) -> Option<Part>
         ensures { λ r. ⌜ Reads (λ p. p) (wordBy placeOf) (wordsLeft (now (self .entry))) (wordsLeft (now (self .exit))) r ⌝ }
     {
         let word = self.word()?;

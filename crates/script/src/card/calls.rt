@@ -4,7 +4,7 @@ ghost use Rattle.std.specs.Of.Vec.{vec-items};
 ghost use Rattle.std.specs.Vec.{made};
 ghost use Rattle.script.specs.Cards.{cardView, newCard, withPart};
 use crate::card::Card;
-use command::Place;
+use card::Part;
 use std::alloc::AllocError;
 use std::alloc::Global;
 
@@ -31,14 +31,14 @@ impl Card {
     }
 
     // Another part in the place of the one it had.
-    pub(crate) fn put(&mut self, place: Place, bytes: Vec<u8>)
+    pub(crate) fn put(&mut self, place: Part, bytes: Vec<u8>)
         ensures { λ _. ⌜ cardView (now (self .exit)) ≡ withPart (cardView (now (self .entry))) place (vec-items bytes) ⌝ }
     {
         match place {
-            Place::Id => self.id = bytes,
-            Place::Privilege => self.privilege = bytes,
-            Place::Ianda => self.ianda = bytes,
-            Place::Authorisation => self.authorisation = bytes,
+            Part::Id => self.id = bytes,
+            Part::Privilege => self.privilege = bytes,
+            Part::Ianda => self.ianda = bytes,
+            Part::Authorisation => self.authorisation = bytes,
         }
     }
 }

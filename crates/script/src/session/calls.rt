@@ -14,6 +14,7 @@ use crate::session::Session;
 use crate::table::place_of;
 use crate::view::card_text;
 use account::Reason;
+use card::Part;
 use certificate::Certificate;
 use clearance::Class;
 use clearance::ClassClearance;
@@ -22,7 +23,6 @@ use clearance::Compartments;
 use clearance::CompartmentsClearance;
 use command::Grant;
 use command::Kind;
-use command::Place;
 use command::bytes_of;
 use std::alloc::AllocError;
 use std::alloc::Global;
@@ -60,7 +60,7 @@ impl Session {
     }
 
     // The part goes into the card of the label.
-    fn put(&mut self, label: &[u8], place: Place, bytes: Vec<u8>) -> Option<Reason>
+    fn put(&mut self, label: &[u8], place: Part, bytes: Vec<u8>) -> Option<Reason>
         ensures { λ why. ⌜ (sessionView (now (self .exit)), why) ≡ putStep (sessionView (now (self .entry))) (now (label .entry)) place (vec-items bytes) ⌝ }
     {
         match place_of(self.cards.as_slice(), label) {
@@ -88,7 +88,7 @@ impl Session {
     pub(crate) fn put_hex(
         &mut self,
         label: &[u8],
-        place: Place,
+        place: Part,
         hex: &[u8],
     ) -> Result<Option<Reason>, AllocError>
         ensures { λ r. ⌜ made r (λ why. (sessionView (now (self .exit)), why) ≡ partStep (sessionView (now (self .entry))) (now (label .entry)) place (unhex (now (hex .entry)))) ⌝ }
@@ -107,7 +107,7 @@ impl Session {
     pub(crate) fn put_certificate<T: Certificate>(
         &mut self,
         label: &[u8],
-        place: Place,
+        place: Part,
         issuer: u32,
         fields: T,
     ) -> Result<Option<Reason>, AllocError>
@@ -121,7 +121,7 @@ impl Session {
     fn put_grant<C: Clearance>(
         &mut self,
         label: &[u8],
-        place: Place,
+        place: Part,
         grant: Grant,
     ) -> Result<Option<Reason>, AllocError>
         ensures { λ r. ⌜ made r (λ why. (sessionView (now (self .exit)), why) ≡ grantPut (sessionView (now (self .entry))) (now (label .entry)) place (grantBytes (C·Clearance .ofNumber) (C·Clearance .numberOf) (vec-items (now (self .entry) .keys)) grant)) ⌝ }
@@ -137,7 +137,7 @@ impl Session {
     pub(crate) fn put_grant_by_kind(
         &mut self,
         label: &[u8],
-        place: Place,
+        place: Part,
         grant: Grant,
     ) -> Result<Option<Reason>, AllocError>
         ensures { λ r. ⌜ made r (λ why. (sessionView (now (self .exit)), why) ≡ grantStep (sessionView (now (self .entry))) (now (label .entry)) place grant) ⌝ }

@@ -9,10 +9,10 @@ ghost use Rattle.script.specs.Sessions.{sessionView};
 use crate::session::Session;
 use account::Reason;
 use account::refused_line;
+use card::Part;
 use certificate::IandaCertificate;
 use certificate::IdCertificate;
 use command::Command;
-use command::Place;
 use command::keys_of;
 use std::alloc::AllocError;
 
@@ -43,7 +43,7 @@ impl Session {
             Command::Part { label, place, hex } => self.put_hex(label, place, hex),
             Command::Id { label, fields } => {
                 let issuer = fields.header.identity.issuer;
-                self.put_certificate(label, Place::Id, issuer, fields)
+                self.put_certificate(label, Part::Id, issuer, fields)
             }
             Command::Grant {
                 label,
@@ -52,7 +52,7 @@ impl Session {
             } => self.put_grant_by_kind(label, place, fields),
             Command::Ianda { label, fields } => {
                 let issuer = fields.header.identity.issuer;
-                self.put_certificate(label, Place::Ianda, issuer, fields)
+                self.put_certificate(label, Part::Ianda, issuer, fields)
             }
             Command::Show { label } => self.show(label, out),
         }

@@ -1,6 +1,6 @@
 use Rattle.account.specs.Texts.{cardLine}
 use Rattle.account.proofs.Appends.{after, last}
-use Rattle.command.specs.declared.command.Place.the-variants as place
+use Rattle.card.specs.declared.part.Part.the-variants as place
 use Rattle.std.specs.Of.Vec.{vec-items}
 use Rattle.script.specs.Views.{cardText, idText, iandaText, kindText}
 use Rattle.script.proofs.view.card_text.Needs as need

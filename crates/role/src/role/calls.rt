@@ -1,6 +1,6 @@
 // The numbers of the roles.
 ghost use mathlib.Core.Path.{_≡_};
-ghost use Rattle.certificate.specs.Roles.{roleNumber, roleOf};
+ghost use Rattle.role.specs.Roles.{roleNumber, roleOf};
 use crate::role::Role;
 
 impl Role {

@@ -2,8 +2,8 @@
 use Prim.Native.Nat.{ℕ, zero, suc}
 use Rattle.std.specs.declared.option.Option.{Option}
 use Rattle.std.specs.declared.option.Option.the-variants.{Some, None}
-use Rattle.certificate.specs.declared.role.Role.{Role}
-use Rattle.certificate.specs.declared.role.Role.the-variants.{UserOnly, Guard, SecurityOfficer, AuditManager}
+use Rattle.role.specs.declared.role.Role.{Role}
+use Rattle.role.specs.declared.role.Role.the-variants.{UserOnly, Guard, SecurityOfficer, AuditManager}
 
 -- the number of each role
 abbrev pub roleNumber : Role → ℕ

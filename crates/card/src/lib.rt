@@ -1,0 +1,4 @@
+// Cards.
+mod part;
+
+pub use part::Part;

@@ -1,0 +1,4 @@
+// The roles of those who hold cards.
+mod role;
+
+pub use role::Role;
