@@ -10,6 +10,8 @@ use Rattle.certificate.specs.declared.fields.Ianda.{Ianda as IandaFields}
 use Rattle.certificate.specs.declared.fields.Id.{Id as IdFields}
 use Rattle.card.specs.declared.part.Part.{Part}
 use Rattle.card.specs.declared.part.Part.the-variants.{Id, Privilege, Ianda, Authorisation}
+use Rattle.account.specs.declared.lines.PartLine.{PartLine}
+use Rattle.account.specs.declared.lines.PartLine.the-variants as line
 use Rattle.account.specs.declared.reason.Reason.{Reason}
 use Rattle.account.specs.declared.reason.Reason.the-variants.{NotUnderstood, NoSuchCard, CardNamedBefore, NoClearanceKind, BadRoleOrClearance, Declined25}
 use Rattle.account.specs.declared.verdict.Verdict.{Verdict}
@@ -77,6 +79,14 @@ faultLine p fault at = placeText p ++ fieldText (codes "fault") fault ++ fieldTe
 -- the line of a part for which there is no clearance kind
 unfoldable pub noKindLine : Part → List ℕ
 noKindLine p = placeText p ++ codes " no clearance kind" ++ newline
+
+-- the line of a part
+abbrev pub partText : PartLine → List ℕ
+partText (line.Id x v) = idLine x v
+partText (line.Ianda x v) = iandaLine x v
+partText (line.Grant p h b role clearance v) = grantLine p h b role clearance v
+partText (line.Fault p fault at) = faultLine p fault at
+partText (line.NoKind p) = noKindLine p
 
 -- whether part 4 of a card can be written
 abbrev pub stateText : Bool → List ℕ

@@ -2,9 +2,10 @@
 ghost use mathlib.Core.List.{_++_};
 ghost use mathlib.Core.Path.{_≡_};
 ghost use Rattle.account.specs.Texts.{headerText, baseText, placeText, markText, stateText};
-ghost use Rattle.account.specs.Texts.{idLine, grantLine, iandaLine, faultLine, noKindLine, cardLine, refusedLine};
+ghost use Rattle.account.specs.Texts.{idLine, grantLine, iandaLine, faultLine, noKindLine, partText, cardLine, refusedLine};
 ghost use Rattle.std.specs.Of.Vec.{vec-items};
 ghost use Rattle.std.specs.Vec.{made};
+use crate::lines::PartLine;
 use crate::out::field;
 use crate::out::hex;
 use crate::out::number;
@@ -66,7 +67,7 @@ fn finish(out: &mut Vec<u8>, verdict: Verdict) -> Result<(), AllocError>
 }
 
 // The line of an ID certificate.
-pub fn id_line(out: &mut Vec<u8>, id: &Id, verdict: Verdict) -> Result<(), AllocError>
+fn id_line(out: &mut Vec<u8>, id: &Id, verdict: Verdict) -> Result<(), AllocError>
     ensures { λ r. ⌜ made r (λ _. vec-items (now (out .exit)) ≡ vec-items (now (out .entry)) ++ idLine (now (id .entry)) verdict) ⌝ }
 {
     start(out, Part::Id)?;
@@ -76,7 +77,7 @@ pub fn id_line(out: &mut Vec<u8>, id: &Id, verdict: Verdict) -> Result<(), Alloc
 }
 
 // The line of a privilege or an authorisation certificate.
-pub fn grant_line(
+fn grant_line(
     out: &mut Vec<u8>,
     place: Part,
     header_of: &Header,
@@ -96,7 +97,7 @@ pub fn grant_line(
 }
 
 // The line of an I&A certificate.
-pub fn ianda_line(out: &mut Vec<u8>, ianda: &Ianda, verdict: Verdict) -> Result<(), AllocError>
+fn ianda_line(out: &mut Vec<u8>, ianda: &Ianda, verdict: Verdict) -> Result<(), AllocError>
     ensures { λ r. ⌜ made r (λ _. vec-items (now (out .exit)) ≡ vec-items (now (out .entry)) ++ iandaLine (now (ianda .entry)) verdict) ⌝ }
 {
     start(out, Part::Ianda)?;
@@ -108,7 +109,7 @@ pub fn ianda_line(out: &mut Vec<u8>, ianda: &Ianda, verdict: Verdict) -> Result<
 }
 
 // The line of a part whose bytes are no certificate: the fault's number, and the offset where it is.
-pub fn fault_line(out: &mut Vec<u8>, place: Part, fault: u32, at: usize) -> Result<(), AllocError>
+fn fault_line(out: &mut Vec<u8>, place: Part, fault: u32, at: usize) -> Result<(), AllocError>
     ensures { λ r. ⌜ made r (λ _. vec-items (now (out .exit)) ≡ vec-items (now (out .entry)) ++ faultLine place fault at) ⌝ }
 {
     start(out, place)?;
@@ -118,12 +119,32 @@ pub fn fault_line(out: &mut Vec<u8>, place: Part, fault: u32, at: usize) -> Resu
 }
 
 // The line of a part for which there is no clearance kind.
-pub fn no_kind_line(out: &mut Vec<u8>, place: Part) -> Result<(), AllocError>
+fn no_kind_line(out: &mut Vec<u8>, place: Part) -> Result<(), AllocError>
     ensures { λ r. ⌜ made r (λ _. vec-items (now (out .exit)) ≡ vec-items (now (out .entry)) ++ noKindLine place) ⌝ }
 {
     start(out, place)?;
     text(out, b" no clearance kind")?;
     text(out, b"\n")
+}
+
+// The line of a part.
+pub fn part_line(out: &mut Vec<u8>, line: PartLine) -> Result<(), AllocError>
+    ensures { λ r. ⌜ made r (λ _. vec-items (now (out .exit)) ≡ vec-items (now (out .entry)) ++ partText line) ⌝ }
+{
+    match line {
+        PartLine::Id(id, verdict) => id_line(out, &id, verdict),
+        PartLine::Ianda(ianda, verdict) => ianda_line(out, &ianda, verdict),
+        PartLine::Grant {
+            part,
+            header,
+            base,
+            role,
+            clearance,
+            verdict,
+        } => grant_line(out, part, &header, &base, role, clearance, verdict),
+        PartLine::Fault { part, fault, at } => fault_line(out, part, fault, at),
+        PartLine::NoKind(part) => no_kind_line(out, part),
+    }
 }
 
 // Whether part 4 of a card can be written.

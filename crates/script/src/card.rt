@@ -3,7 +3,7 @@ pub(crate) mod calls;
 
 // Its label, its number, whether part 4 can be written, and its four parts.
 #[derive(Drop)]
-pub struct Card {
+pub(crate) struct Card {
     pub(crate) label: Vec<u8>,
     pub(crate) number: u32,
     pub(crate) writable: bool,

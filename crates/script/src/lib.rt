@@ -8,4 +8,3 @@ mod table;
 mod view;
 
 pub use replay::replay_all;
-pub use session::Session;

@@ -8,7 +8,7 @@ pub(crate) mod lines;
 
 // The clearance kind, if one was chosen; the keys of the latest seal, none before the first; and the cards, in the order of their making.
 #[derive(Drop)]
-pub struct Session {
+pub(crate) struct Session {
     pub(crate) kind: Option<Kind>,
     pub(crate) keys: Vec<Key>,
     pub(crate) cards: Vec<Card>,

@@ -7,12 +7,9 @@ ghost use Rattle.script.specs.Cards.{cardView};
 ghost use Rattle.script.specs.Views.{idText, iandaText, grantText, kindText, cardText};
 use crate::card::Card;
 use crate::marks::verdict;
+use account::PartLine;
 use account::card_line;
-use account::fault_line;
-use account::grant_line;
-use account::ianda_line;
-use account::id_line;
-use account::no_kind_line;
+use account::part_line;
 use card::Part;
 use certificate::Ianda;
 use certificate::Id;
@@ -33,11 +30,12 @@ fn id_text(out: &mut Vec<u8>, keys: &[Key], bytes: &[u8]) -> Result<(), AllocErr
         Ok(x) => {
             let issuer = x.fields.header.identity.issuer;
             let found = verdict(keys, issuer, x.message, x.mark);
-            id_line(out, &x.fields, found)
+            part_line(out, PartLine::Id(x.fields, found))
         }
         Err(e) => {
             let (fault, at) = e.told();
-            fault_line(out, Part::Id, fault, at)
+            let part = Part::Id;
+            part_line(out, PartLine::Fault { part, fault, at })
         }
     }
 }
@@ -49,11 +47,12 @@ fn ianda_text(out: &mut Vec<u8>, keys: &[Key], bytes: &[u8]) -> Result<(), Alloc
         Ok(x) => {
             let issuer = x.fields.header.identity.issuer;
             let found = verdict(keys, issuer, x.message, x.mark);
-            ianda_line(out, &x.fields, found)
+            part_line(out, PartLine::Ianda(x.fields, found))
         }
         Err(e) => {
             let (fault, at) = e.told();
-            fault_line(out, Part::Ianda, fault, at)
+            let part = Part::Ianda;
+            part_line(out, PartLine::Fault { part, fault, at })
         }
     }
 }
@@ -72,19 +71,20 @@ fn grant_text<C: Clearance>(
             let found = verdict(keys, fields.header.identity.issuer, x.message, x.mark);
             let role = fields.role.number();
             let clearance = fields.clearance.number();
-            grant_line(
-                out,
-                place,
-                &fields.header,
-                &fields.base,
+            let line = PartLine::Grant {
+                part: place,
+                header: fields.header,
+                base: fields.base,
                 role,
                 clearance,
-                found,
-            )
+                verdict: found,
+            };
+            part_line(out, line)
         }
         Err(e) => {
             let (fault, at) = e.told();
-            fault_line(out, place, fault, at)
+            let part = place;
+            part_line(out, PartLine::Fault { part, fault, at })
         }
     }
 }
@@ -100,7 +100,7 @@ fn kind_text(
     ensures { λ r. ⌜ made r (λ _. vec-items (now (out .exit)) ≡ vec-items (now (out .entry)) ++ kindText kind place (now (keys .entry)) (now (bytes .entry))) ⌝ }
 {
     let Some(chosen) = kind else {
-        return no_kind_line(out, place);
+        return part_line(out, PartLine::NoKind(place));
     };
     match chosen {
         Kind::Class => grant_text::<Class>(out, place, keys, bytes),

@@ -32,7 +32,7 @@ const PART: usize = 128;
 
 impl Session {
     // Before the first line.
-    pub fn new(heap: Global) -> Session
+    pub(crate) fn new(heap: Global) -> Session
         ensures { λ r. ⌜ sessionView r ≡ fresh ⌝ }
     {
         Session {

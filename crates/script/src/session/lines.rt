@@ -59,7 +59,12 @@ impl Session {
     }
 
     // Carries out the n-th line, which stands without its newline, and puts what it prints behind `out`.
-    pub fn line(&mut self, n: usize, line: &[u8], out: &mut Vec<u8>) -> Result<(), AllocError>
+    pub(crate) fn line(
+        &mut self,
+        n: usize,
+        line: &[u8],
+        out: &mut Vec<u8>,
+    ) -> Result<(), AllocError>
         ensures after { λ r. ⌜ made r (λ _. sessionView (now (self .exit)) ≡ sessionAfter (sessionView (now (self .entry))) (lineOf (now (line .entry)))) ⌝ }
         ensures printed { λ r. ⌜ made r (λ _. vec-items (now (out .exit)) ≡ vec-items (now (out .entry)) ++ printedBy (sessionView (now (self .entry))) n (lineOf (now (line .entry)))) ⌝ }
     {

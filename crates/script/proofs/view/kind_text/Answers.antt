@@ -3,7 +3,7 @@ use Rattle.script.proofs.view.kind_text.Needs as need
 
 pub returns-in-rest : need.returns-in-rest
 unfolding kindText
-returns-in-rest c = rw (c .in-rest .is) (c .no-kind-line .ensures)
+returns-in-rest c = rw (c .in-rest .is) (c .part-line .ensures)
 
 pub returns-in-Class : need.returns-in-Class
 unfolding kindText
