@@ -1,4 +1,6 @@
 // The lines of an account of cards.
+#![tactic(auto)]
+
 mod lines;
 mod out;
 mod reason;

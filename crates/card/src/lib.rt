@@ -1,4 +1,6 @@
 // Cards, the slots that hold them, and a layer over slots.
+#![tactic(auto)]
+
 mod bytes;
 mod decline;
 mod part;

@@ -1,4 +1,6 @@
 // Certificates: reading and writing the four kinds, in X.690 DER with one encoding each.
+#![tactic(auto)]
+
 mod body;
 mod bytes;
 mod certificate;

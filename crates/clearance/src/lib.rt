@@ -1,4 +1,6 @@
 // The kinds of clearance: the numbers that stand for clearances, which clearance covers which, and what two have in common.
+#![tactic(auto)]
+
 mod class;
 mod clearance;
 mod compartments;

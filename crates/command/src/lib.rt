@@ -1,4 +1,6 @@
 // What a line of a script says.
+#![tactic(auto)]
+
 mod command;
 mod hex;
 mod keys;

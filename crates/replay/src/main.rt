@@ -1,4 +1,6 @@
 // Reads a script from standard input, carries it out and prints the account.
+#![tactic(auto)]
+
 use script::replay_all;
 use std::io::{Read, Write};
 

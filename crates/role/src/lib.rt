@@ -1,4 +1,6 @@
 // The roles of those who hold cards.
+#![tactic(auto)]
+
 mod role;
 
 pub use role::Role;

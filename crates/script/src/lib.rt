@@ -1,4 +1,6 @@
 // A script, carried out line by line.
+#![tactic(auto)]
+
 mod card;
 mod issue;
 mod marks;

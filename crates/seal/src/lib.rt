@@ -1,4 +1,6 @@
 // Seals: what makes marks and checks them.
+#![tactic(auto)]
+
 mod bytes;
 mod decline;
 mod hmac;

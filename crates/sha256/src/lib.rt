@@ -1,4 +1,6 @@
 // SHA-256 (FIPS 180-4) and HMAC-SHA-256 (RFC 2104).
+#![tactic(auto)]
+
 mod bytes;
 mod compress;
 mod functions;

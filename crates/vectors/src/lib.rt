@@ -1,4 +1,6 @@
 // Known answers for SHA-256, HMAC-SHA-256 and the certificates, as tests only.
+#![tactic(auto)]
+
 #[cfg(test)]
 mod digests;
 #[cfg(test)]

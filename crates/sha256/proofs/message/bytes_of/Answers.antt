@@ -12,8 +12,8 @@ list v = v.a ∷ v.b ∷ v.c ∷ v.d ∷ v.e ∷ v.f ∷ v.g ∷ v.h ∷ []
 pub loop-i-preserved : goal.loop-i-preserved
 unfolding list four_bytes
 loop-i-preserved c = (
-  word_next (list c.args.v) c.loop-i.r c.put.new.out c.to-be-bytes.result c.loop-i.i _ (omega arith) (omega (arith, c.loop-i.invariant.1)) c.loop-i.invariant.0
-      c.to-be-bytes.ensures c.put.ensures,
+  word_next (list c.args.v) c.loop-i.r c.put.new.out c.to_be_bytes.result c.loop-i.i _ (omega arith) (omega (arith, c.loop-i.invariant.1)) c.loop-i.invariant.0
+      c.to_be_bytes.ensures c.put.ensures,
   search rules,
 )
 

@@ -8,7 +8,7 @@ use Rattle.sha256.proofs.schedule.load.Goals as goal
 pub loop-t-preserved : goal.loop-t-preserved
 unfolding word
 loop-t-preserved c =
-    let e : c.from-be-bytes.result ≡ word c.args.block.now c.loop-t.t = c.from-be-bytes.ensures in
+    let e : c.from_be_bytes.result ≡ word c.args.block.now c.loop-t.t = c.from_be_bytes.ensures in
     (rw e (fill_by_more (word c.args.block.now) c.loop-t.w c.loop-t.t 0 (omega (arith, c.loop-t.invariant.1)) c.loop-t.invariant.0), rw length-set c.loop-t.invariant.1)
 
 pub returns : goal.returns
