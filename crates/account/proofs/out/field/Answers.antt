@@ -1,10 +1,10 @@
 -- One text after another is the whole text.
 use Rattle.account.proofs.Appends.{after, last}
 use Rattle.account.proofs.out.field.Goals as goal
-use Rattle.account.specs.Texts.{fieldText}
+use Rattle.account.specs.Texts.{field_text}
 
 pub returns : goal.returns
-unfolding fieldText
+unfolding field_text
 returns c =
     let o = c.args.out.now in
     let t0 = c.in-ok-text.ensures in
