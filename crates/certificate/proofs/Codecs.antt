@@ -1,5 +1,5 @@
 -- Each group of fields: what was written is read back, and what is read is that writing.
-use Rattle.std.proofs.Common.{◌≡◌, ℕ, ◌+◌, List, ◌++◌, length, Ok, Result, sym, refl, ap, ◌∙◌, subst}
+use Rattle.std.proofs.Common.{◌≡◌, ℕ, List, ◌++◌, length, Ok, Result, sym, refl, ap, ◌∙◌, subst}
 use Rattle.std.specs.Int.Digits.{AllBelowBase}
 use Rattle.std.proofs.lemmas.List.{append_assoc}
 use Rattle.certificate.specs.declared.fault.Refusal.{Refusal}

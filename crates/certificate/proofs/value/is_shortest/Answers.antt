@@ -8,5 +8,5 @@ returns-in-0 c = sym (shortest_none c.args.c.now (omega arith))
 pub returns-in-1 : goal.returns-in-1
 returns-in-1 c = sym (shortest_one c.args.c.now (omega arith))
 
-pub returns-in-default : goal.returns-in-default
-returns-in-default c = sym (shortest_more c.args.c.now (omega arith))
+pub returns-in_default : goal.returns-in_default
+returns-in_default c = sym (shortest_more c.args.c.now (omega arith))

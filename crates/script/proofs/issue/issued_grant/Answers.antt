@@ -2,14 +2,14 @@ use Rattle.std.proofs.Common.{Some, sym, ap}
 use Rattle.script.specs.Issues.{grant_bytes, grant_with}
 use Rattle.script.proofs.issue.issued_grant.Goals as goal
 
-pub returns-in-default : goal.returns-in-default
+pub returns-in_default : goal.returns-in_default
 unfolding grant_bytes grant_with
-returns-in-default g c = rw (sym c.in-default.ensures)
+returns-in_default g c = rw (sym c.in_default.ensures)
 
-pub returns-in-default-of : goal.returns-in-default-of
+pub returns-in_default-of : goal.returns-in_default-of
 unfolding grant_bytes grant_with
-returns-in-default-of g c = rw (sym c.in-Some.ensures, sym c.in-default-of.ensures)
+returns-in_default-of g c = rw (sym c.in-Some.ensures, sym c.in_default-of.ensures)
 
 pub returns : goal.returns
 unfolding grant_bytes grant_with
-returns g c = rw (sym c.in-Some.ensures, sym c.in-Some-of.ensures) (ap Some (sym c.in-ok-bytes.ensures))
+returns g c = rw (sym c.in-Some.ensures, sym c.in-Some-of.ensures) (ap Some (sym c.in_ok-bytes.ensures))

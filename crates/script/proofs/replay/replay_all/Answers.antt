@@ -12,10 +12,10 @@ loop-rest-init c = (rw (c.new-out.ensures.items, c.new-session.ensures), omega a
 pub loop-rest-preserved : goal.loop-rest-preserved
 loop-rest-preserved c =
     let rest = c.loop-rest.rest.now in (
-      replay_step (session_view c.loop-rest.session) (session_view c.line.new.self) c.loop-rest.n c.line-end-end.result (vec_items c.loop-rest.out) (vec_items c.line.new.out)
-          rest c.before-in-loop-rest.result.now c.after-rest.result.now _ (omega arith) c.line-end-end.ensures.count c.before-in-loop-rest.ensures c.after-rest.ensures
-          c.in-ok-line.ensures.after c.in-ok-line.ensures.printed c.loop-rest.invariant.0,
-      omega (arith, ap length c.after-rest.ensures, length-drop (c.line-end-end.result + 1) rest, c.loop-rest.invariant.1),
+      replay_step (session_view c.loop-rest.session) (session_view c.line.new.self) c.loop-rest.n c.line_end-end.result (vec_items c.loop-rest.out) (vec_items c.line.new.out)
+          rest c.before-in-loop-rest.result.now c.after-rest.result.now _ (omega arith) c.line_end-end.ensures.count c.before-in-loop-rest.ensures c.after-rest.ensures
+          c.in_ok-line.ensures.after c.in_ok-line.ensures.printed c.loop-rest.invariant.0,
+      omega (arith, ap length c.after-rest.ensures, length-drop (c.line_end-end.result + 1) rest, c.loop-rest.invariant.1),
     )
 
 pub returns : goal.returns
@@ -24,4 +24,4 @@ returns c =
     ∙ c.loop-rest.invariant.0
 
 pub loop-rest-smaller : goal.loop-rest-smaller
-loop-rest-smaller c = omega (arith, ap length c.after-rest.ensures, length-drop (c.line-end-end.result + 1) c.loop-rest.rest.now)
+loop-rest-smaller c = omega (arith, ap length c.after-rest.ensures, length-drop (c.line_end-end.result + 1) c.loop-rest.rest.now)

@@ -9,7 +9,7 @@ returns-then-same c =
     let cs = c.args.cards.now in
     let label = c.args.label.now in
     let i = c.loop-i.i in
-    let here = here_any cs label i _ true c.loop-i-test.true (ap (λ xs. bytes_eq xs label) (sym c.as-slice.ensures.value) ∙ sym c.if-same.ensures) in
+    let here = here_any cs label i _ true c.loop-i-test.true (ap (λ xs. bytes_eq xs label) (sym c.as_slice.ensures.value) ∙ sym c.if-same.ensures) in
     record {
       within = c.loop-i-test.true;
       found = (card_view c.index-cards-i.result, named_at cs label i _ c.loop-i-test.true c.loop-i.invariant (here _) ∙ ap (λ x. Some (card_view x)) (sym c.index-cards-i.is));
@@ -23,7 +23,7 @@ loop-i-preserved c =
     let label = c.args.label.now in
     let i = c.loop-i.i in
     others_more cs label i c.loop-i.invariant
-    (here_any cs label i _ false c.loop-i-test.true (ap (λ xs. bytes_eq xs label) (sym c.as-slice.ensures.value) ∙ sym c.if-same.ensures))
+    (here_any cs label i _ false c.loop-i-test.true (ap (λ xs. bytes_eq xs label) (sym c.as_slice.ensures.value) ∙ sym c.if-same.ensures))
 
 pub returns : goal.returns
 returns c = named_none c.args.cards.now c.args.label.now (λ k d h. c.loop-i.invariant k d (omega arith))

@@ -12,12 +12,12 @@ returns c =
     let card = c.args.card.now in
     let ks = c.args.keys.now in
     let kind = c.args.kind in
-    let one = rw c.as-slice.ensures.value at c.in-ok-card-line.ensures in
-    let two = after o c.card-line.new.out c.id-text.new.out (card_line (vec_items card.label) card.number card.writable) (id_text ks (vec_items card.id))
-    one (rw c.as-slice-2.ensures.value at c.in-ok-id-text.ensures) in
-    let three = after o c.id-text.new.out c.kind-text.new.out _ (kind_text kind place.Privilege ks (vec_items card.privilege))
-    two (rw c.as-slice-3.ensures.value at c.in-ok-kind-text.ensures) in
-    let four = after o c.kind-text.new.out c.ianda-text.new.out _ (ianda_text ks (vec_items card.ianda))
-    three (rw c.as-slice-4.ensures.value at c.in-ok-ianda-text.ensures) in
-    last c.kind-text-2.result o c.ianda-text.new.out c.kind-text-2.new.out _ (kind_text kind place.Authorisation ks (vec_items card.authorisation))
-    four (rw c.as-slice-5.ensures.value at c.kind-text-2.ensures)
+    let one = rw c.as_slice.ensures.value at c.in_ok-card_line.ensures in
+    let two = after o c.card_line.new.out c.id_text.new.out (card_line (vec_items card.label) card.number card.writable) (id_text ks (vec_items card.id))
+    one (rw c.as_slice-2.ensures.value at c.in_ok-id_text.ensures) in
+    let three = after o c.id_text.new.out c.kind_text.new.out _ (kind_text kind place.Privilege ks (vec_items card.privilege))
+    two (rw c.as_slice-3.ensures.value at c.in_ok-kind_text.ensures) in
+    let four = after o c.kind_text.new.out c.ianda_text.new.out _ (ianda_text ks (vec_items card.ianda))
+    three (rw c.as_slice-4.ensures.value at c.in_ok-ianda_text.ensures) in
+    last c.kind_text-2.result o c.ianda_text.new.out c.kind_text-2.new.out _ (kind_text kind place.Authorisation ks (vec_items card.authorisation))
+    four (rw c.as_slice-5.ensures.value at c.kind_text-2.ensures)

@@ -1,6 +1,5 @@
 use Rattle.std.proofs.Common.{◌*◌, ◌/◌, length, arith, rules}
 use Rattle.std.proofs.lemmas.List.{take_rest}
-use Rattle.sha256.specs.Hash.{bytes_of}
 use Rattle.sha256.proofs.Laws.{finish_is}
 use Rattle.sha256.proofs.message.finish.Goals as goal
 

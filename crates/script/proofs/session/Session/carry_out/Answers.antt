@@ -13,37 +13,37 @@ pub returns-in-Clearance : goal.returns-in-Clearance
 unfolding carried_out account_of
 returns-in-Clearance c = rw c.in-Clearance.is (record { after = refl; printed = sym (append-nil _) })
 
-pub returns-in-ok-self : goal.returns-in-ok-self
+pub returns-in_ok-self : goal.returns-in_ok-self
 unfolding carried_out account_of
-returns-in-ok-self c =
+returns-in_ok-self c =
     let s = c.args.self.now in
     rw c.in-Seal.is
     (record {
-      after = ap {B = Step} (λ ks. (record { kind = s.kind; keys = ks; cards = (session_view s).cards }, None)) c.in-ok-self.ensures;
+      after = ap {B = Step} (λ ks. (record { kind = s.kind; keys = ks; cards = (session_view s).cards }, None)) c.in_ok-self.ensures;
       printed = sym (append-nil _);
     })
 
 pub returns-in-Card : goal.returns-in-Card
 unfolding carried_out account_of
-returns-in-Card c = rw c.in-Card.is (record { after = c.add-card.ensures; printed = made_none c.add-card.result (vec_items c.args.out.now) })
+returns-in-Card c = rw c.in-Card.is (record { after = c.add_card.ensures; printed = made_none c.add_card.result (vec_items c.args.out.now) })
 
 pub returns-in-Part : goal.returns-in-Part
 unfolding carried_out account_of
-returns-in-Part c = rw c.in-Part.is (record { after = c.put-hex.ensures; printed = made_none c.put-hex.result (vec_items c.args.out.now) })
+returns-in-Part c = rw c.in-Part.is (record { after = c.put_hex.ensures; printed = made_none c.put_hex.result (vec_items c.args.out.now) })
 
 pub returns-in-Id : goal.returns-in-Id
 unfolding carried_out account_of
-returns-in-Id c = rw c.in-Id.is (record { after = c.put-certificate.ensures; printed = made_none c.put-certificate.result (vec_items c.args.out.now) })
+returns-in-Id c = rw c.in-Id.is (record { after = c.put_certificate.ensures; printed = made_none c.put_certificate.result (vec_items c.args.out.now) })
 
 pub returns-in-Grant : goal.returns-in-Grant
 unfolding carried_out account_of
 returns-in-Grant c =
-    rw c.in-Grant.is (record { after = c.put-grant-by-kind.ensures; printed = made_none c.put-grant-by-kind.result (vec_items c.args.out.now) })
+    rw c.in-Grant.is (record { after = c.put_grant_by_kind.ensures; printed = made_none c.put_grant_by_kind.result (vec_items c.args.out.now) })
 
 pub returns-in-Ianda : goal.returns-in-Ianda
 unfolding carried_out account_of
 returns-in-Ianda c =
-    rw c.in-Ianda.is (record { after = c.put-certificate-in-Ianda.ensures; printed = made_none c.put-certificate-in-Ianda.result (vec_items c.args.out.now) })
+    rw c.in-Ianda.is (record { after = c.put_certificate-in-Ianda.ensures; printed = made_none c.put_certificate-in-Ianda.result (vec_items c.args.out.now) })
 
 pub returns-in-Show : goal.returns-in-Show
 unfolding carried_out account_of

@@ -6,12 +6,12 @@ use Rattle.script.proofs.session.Session.put.Goals as goal
 
 pub returns-in-None : goal.returns-in-None
 unfolding put_step on_card
-returns-in-None c = rw (rw c.as-slice.ensures.value at c.in-None.ensures)
+returns-in-None c = rw (rw c.as_slice.ensures.value at c.in-None.ensures)
 
 pub returns-in-Some : goal.returns-in-Some
 unfolding put_step on_card
 returns-in-Some c =
-    let at = rw c.as-slice.ensures.value at c.in-Some.ensures in
+    let at = rw c.as_slice.ensures.value at c.in-Some.ensures in
     let s = session_view c.args.self.now in
     let items = vec_items c.args.self.now.cards in
     let i = c.in-Some.i in
@@ -19,5 +19,5 @@ returns-in-Some c =
     rw at.found.1
     (ap {B = Step} (λ cs. (with_cards s cs, None))
     (map-set card_view items i c.put.new.self
-    ∙ ap (set (map card_view items) i) (c.put.ensures ∙ ap (λ x. with_part (card_view x) c.args.place bytes) c.index-mut.ensures.value)
+    ∙ ap (set (map card_view items) i) (c.put.ensures ∙ ap (λ x. with_part (card_view x) c.args.place bytes) c.index_mut.ensures.value)
     ∙ sym (at.put _ c.args.place bytes)))

@@ -7,22 +7,22 @@ pub returns-then-not-knows : goal.returns-then-not-knows
 unfolding grant_step
 returns-then-not-knows c = on_none _ _ _ c.if-not-knows.ensures
 
-pub returns-in-default : goal.returns-in-default
+pub returns-in_default : goal.returns-in_default
 unfolding grant_step grant_by
-returns-in-default c =
+returns-in_default c =
     let s = session_view c.args.self.now in
-    ap (grant_by s c.args.label.now c.args.place c.args.grant) (sym c.in-default.is) ∙ on_some s _ _ c.if-not-knows.ensures
+    ap (grant_by s c.args.label.now c.args.place c.args.grant) (sym c.in_default.is) ∙ on_some s _ _ c.if-not-knows.ensures
 
 pub returns-in-Class : goal.returns-in-Class
 unfolding grant_step grant_by
 returns-in-Class c =
     let s = session_view c.args.self.now in
     let e = ap (grant_by s c.args.label.now c.args.place c.args.grant) (sym (c.in-Some.is ∙ ap Some c.in-Class.is)) ∙ on_some s _ _ c.if-not-knows.ensures in
-    rw (sym e) c.put-grant.ensures
+    rw (sym e) c.put_grant.ensures
 
 pub returns-in-Compartments : goal.returns-in-Compartments
 unfolding grant_step grant_by
 returns-in-Compartments c =
     let s = session_view c.args.self.now in
     let e = ap (grant_by s c.args.label.now c.args.place c.args.grant) (sym (c.in-Some.is ∙ ap Some c.in-Compartments.is)) ∙ on_some s _ _ c.if-not-knows.ensures in
-    rw (sym e) c.put-grant-in-Compartments.ensures
+    rw (sym e) c.put_grant-in-Compartments.ensures

@@ -10,12 +10,12 @@ returns-then-not-knows c = on_none _ _ _ c.if-not-knows.ensures
 
 pub returns-then-len-gt-PART : goal.returns-then-len-gt-PART
 returns-then-len-gt-PART c =
-    let n : length (unhex c.args.hex.now) ≡ vec_len c.in-ok-bytes.bytes = sym (c.in-ok-bytes.bytes.ok.0 ∙ ap length c.in-ok-bytes.ensures) in
+    let n : length (unhex c.args.hex.now) ≡ vec_len c.in_ok-bytes.bytes = sym (c.in_ok-bytes.bytes.ok.0 ∙ ap length c.in_ok-bytes.ensures) in
     part_long (session_view c.args.self.now) c.args.label.now c.args.place (unhex c.args.hex.now) (omega arith) c.if-not-knows.ensures
 
 pub returns : goal.returns
 returns c =
-    let n : length (unhex c.args.hex.now) ≡ vec_len c.in-ok-bytes.bytes = sym (c.in-ok-bytes.bytes.ok.0 ∙ ap length c.in-ok-bytes.ensures) in
+    let n : length (unhex c.args.hex.now) ≡ vec_len c.in_ok-bytes.bytes = sym (c.in_ok-bytes.bytes.ok.0 ∙ ap length c.in_ok-bytes.ensures) in
     let s = session_view c.args.self.now in
-    c.put.ensures ∙ ap (put_step s c.args.label.now c.args.place) c.in-ok-bytes.ensures
+    c.put.ensures ∙ ap (put_step s c.args.label.now c.args.place) c.in_ok-bytes.ensures
     ∙ part_short s c.args.label.now c.args.place (unhex c.args.hex.now) (omega arith) c.if-not-knows.ensures

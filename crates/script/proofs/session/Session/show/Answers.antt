@@ -6,10 +6,10 @@ use Rattle.script.proofs.session.Session.show.Goals as goal
 
 pub returns-in-None : goal.returns-in-None
 unfolding on_card shown_text
-returns-in-None c = rw (rw c.as-slice.ensures.value at c.in-None.ensures) (sym (append-nil _), refl)
+returns-in-None c = rw (rw c.as_slice.ensures.value at c.in-None.ensures) (sym (append-nil _), refl)
 
-pub returns-in-ok-card-text : goal.returns-in-ok-card-text
+pub returns-in_ok-card_text : goal.returns-in_ok-card_text
 unfolding on_card shown_text
-returns-in-ok-card-text c =
-    let at = rw c.as-slice.ensures.value at c.in-Some.ensures in
-    rw (at.card _ ∙ ap (λ x. Some (card_view x)) (sym c.index.ensures)) (rw c.as-slice-in-Some.ensures.value at c.in-ok-card-text.ensures, refl)
+returns-in_ok-card_text c =
+    let at = rw c.as_slice.ensures.value at c.in-Some.ensures in
+    rw (at.card _ ∙ ap (λ x. Some (card_view x)) (sym c.index.ensures)) (rw c.as_slice-in-Some.ensures.value at c.in_ok-card_text.ensures, refl)

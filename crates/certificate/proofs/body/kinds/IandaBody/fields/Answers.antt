@@ -3,24 +3,24 @@ use Rattle.certificate.specs.Placed.{followed}
 use Rattle.certificate.specs.Fields.{ianda_at}
 use Rattle.certificate.proofs.body.kinds.IandaBody.fields.Goals as goal
 
-pub returns-in-err-header : goal.returns-in-err-header
+pub returns-in_err-header : goal.returns-in_err-header
 unfolding ianda_at followed
-returns-in-err-header c =
-    let p = err_from_is_err_and c.from-residual.result c.from-residual.ensures.1 in
-    rw (p.1, p.2, c.in-err-header.ensures)
+returns-in_err-header c =
+    let p = err_from_is_err_and c.from_residual.result c.from_residual.ensures.1 in
+    rw (p.1, p.2, c.in_err-header.ensures)
 
-pub returns-in-err-base : goal.returns-in-err-base
+pub returns-in_err-base : goal.returns-in_err-base
 unfolding ianda_at followed
-returns-in-err-base c =
-    let p = err_from_is_err_and c.from-residual-in-err-base.result c.from-residual-in-err-base.ensures.1 in
-    rw (p.1, p.2, c.in-ok-header.ensures, c.in-err-base.ensures)
+returns-in_err-base c =
+    let p = err_from_is_err_and c.from_residual-in_err-base.result c.from_residual-in_err-base.ensures.1 in
+    rw (p.1, p.2, c.in_ok-header.ensures, c.in_err-base.ensures)
 
-pub returns-in-err-template : goal.returns-in-err-template
+pub returns-in_err-template : goal.returns-in_err-template
 unfolding ianda_at followed
-returns-in-err-template c =
-    let p = err_from_is_err_and c.from-residual-in-err-template.result c.from-residual-in-err-template.ensures.1 in
-    rw (p.1, p.2, c.in-ok-header.ensures, c.in-ok-base.ensures, c.in-err-template.ensures)
+returns-in_err-template c =
+    let p = err_from_is_err_and c.from_residual-in_err-template.result c.from_residual-in_err-template.ensures.1 in
+    rw (p.1, p.2, c.in_ok-header.ensures, c.in_ok-base.ensures, c.in_err-template.ensures)
 
 pub returns : goal.returns
 unfolding ianda_at followed
-returns c = rw (c.in-ok-header.ensures, c.in-ok-base.ensures, c.in-ok-template.ensures)
+returns c = rw (c.in_ok-header.ensures, c.in_ok-base.ensures, c.in_ok-template.ensures)
