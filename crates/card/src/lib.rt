@@ -69,7 +69,9 @@ mod tests {
         let mut card = CardRecord::new(300, false);
         let answers = [card.put(Part::Id, &[7; 128]), card.put(Part::Id, &[8; 129])];
         assert_eq!(rt; answers, [Ok(()), Err(CardDecline::PartTooLong)]);
-        assert!(rt; card.part(Part::Id) == [7; 128] && card.part(Part::Ianda).is_empty());
+        assert!(rt;
+            card.part(Part::Id) == [7; 128].as_slice() && card.part(Part::Ianda).is_empty()
+        );
         assert!(rt; card.number() == 300 && !card.writable());
     }
 
