@@ -6,13 +6,13 @@ pub returns-then-n-lt1 : goal.returns-then-n-lt1
 unfolding keys_code
 returns-then-n-lt1 c = search rules
 
-pub returns-then-n-gt-MOST-KEYS : goal.returns-then-n-gt-MOST-KEYS
+pub returns-then-n-gt-MOST_KEYS : goal.returns-then-n-gt-MOST_KEYS
 unfolding keys_code
-returns-then-n-gt-MOST-KEYS c = search rules
+returns-then-n-gt-MOST_KEYS c = search rules
 
-pub returns-then-not-are-distinct : goal.returns-then-not-are-distinct
+pub returns-then-not-are_distinct : goal.returns-then-not-are_distinct
 unfolding keys_code
-returns-then-not-are-distinct c = search rules
+returns-then-not-are_distinct c = search rules
 
 pub returns : goal.returns
 unfolding keys_code

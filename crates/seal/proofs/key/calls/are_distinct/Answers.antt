@@ -4,12 +4,12 @@ use Rattle.seal.specs.Keys.{key_named}
 use Rattle.seal.proofs.Lookups.{no_key, distinct_step, distinct_none}
 use Rattle.seal.proofs.key.calls.are_distinct.Goals as goal
 
-pub returns-then-is-some : goal.returns-then-is-some
-returns-then-is-some c =
+pub returns-then-is_some : goal.returns-then-is_some
+returns-then-is_some c =
     let ks = c.args.keys.now in
     let i = c.loop-i.i in
     let found : is_some (key_named (drop (i + 1) ks) (get_or ks i no_key).name) ≡ true =
-    ap (λ xs. is_some (key_named xs (get_or ks i no_key).name)) (sym (take_rest ks (i + 1))) ∙ ap is_some (sym c.key-named.ensures) ∙ sym c.if-is-some.ensures in
+    ap (λ xs. is_some (key_named xs (get_or ks i no_key).name)) (sym (take_rest ks (i + 1))) ∙ ap is_some (sym c.key_named.ensures) ∙ sym c.if-is_some.ensures in
     let step = rw found at (distinct_step ks i c.loop-i-test.true) in
     sym step ∙ c.loop-i.invariant
 
@@ -18,7 +18,7 @@ loop-i-preserved c =
     let ks = c.args.keys.now in
     let i = c.loop-i.i in
     let found : is_some (key_named (drop (i + 1) ks) (get_or ks i no_key).name) ≡ false =
-    ap (λ xs. is_some (key_named xs (get_or ks i no_key).name)) (sym (take_rest ks (i + 1))) ∙ ap is_some (sym c.key-named.ensures) ∙ sym c.if-is-some.ensures in
+    ap (λ xs. is_some (key_named xs (get_or ks i no_key).name)) (sym (take_rest ks (i + 1))) ∙ ap is_some (sym c.key_named.ensures) ∙ sym c.if-is_some.ensures in
     let step = rw found at (distinct_step ks i c.loop-i-test.true) in
     sym step ∙ c.loop-i.invariant
 

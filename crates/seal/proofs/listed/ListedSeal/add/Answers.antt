@@ -13,8 +13,8 @@ returns c =
     let size : length mark ≡ 32 = search rules in
     let few : length ps < 64 = omega (arith, c.requires, s.pairs.ok.0) in
     let is : mark ≡ sha256 m = c.digest-mark.ensures in
-    let more = c.push-reserved.ensures.items in
+    let more = c.push_reserved.ensures.items in
     record {
-      made = listing_made s.name ps (vec_items c.push-reserved.new.self) m mark is more few size;
-      settled = record { digest = is; name = refl; pairs = more ∙ ap (λ (d : List ℕ). ps ++ (record { issuer = s.name; digest = d } ∷ [])) is; room = c.push-reserved.ensures.capacity };
+      made = listing_made s.name ps (vec_items c.push_reserved.new.self) m mark is more few size;
+      settled = record { digest = is; name = refl; pairs = more ∙ ap (λ (d : List ℕ). ps ++ (record { issuer = s.name; digest = d } ∷ [])) is; room = c.push_reserved.ensures.capacity };
     }
