@@ -15,7 +15,7 @@ pub(crate) fn text(out: &mut Vec<u8>, bytes: &[u8]) -> Result<(), AllocError>
 pub(crate) fn number(out: &mut Vec<u8>, n: u64) -> Result<(), AllocError>
     ensures { OnOk result (out.new.items ≡ out.old.items ++ decimal n) }
 {
-    let digits = n.to_string(out.allocator())?;
+    let digits = n.to_string(*out.allocator())?;
     text(out, digits.as_bytes())
 }
 

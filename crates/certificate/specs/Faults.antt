@@ -14,6 +14,6 @@ fault_number Octets = 44
 fault_number LeftOver = 45
 fault_number RoleOrClearance = 46
 
--- a refusal is at_offset by the number of its fault and the offset of its element
+-- a refusal is told by the number of its fault and the offset of its element
 abbrev pub told_by : Refusal → ℕ × ℕ
 told_by e = (fault_number e.fault, e.at)

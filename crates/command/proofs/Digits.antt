@@ -4,7 +4,6 @@ use native.Mathlib.Nat.{pow-le-pow_right}
 use Rattle.std.proofs.lemmas.Int.Digits.{number_push}
 use Rattle.std.proofs.lemmas.List.{take_more, map_more, drop_more, length-drop, length-take-le, take-append-drop, set_at}
 use Rattle.std.proofs.lemmas.Bool.{and_parts, and_left, and_right, leb-true, cond_both, cond-false, le-leb, lt-leb, ne_eqb, eq-eqb}
-use Rattle.std.specs.Int.Digits.{number_from_digits}
 use Rattle.command.specs.Words.{all, is_digit, decimal_of, is_number, number_of, hex_digit, is_hex, nibble, unhex, bytes32_of}
 
 module _ {A : Type 0} (p : A → Bool) where

@@ -1,5 +1,5 @@
 -- What a buffer holds after a writing.
-use Rattle.std.proofs.Common.{◌≡◌, ℕ, ◌-◌, ◌≤◌, List, length, take, drop, IfOk, Ok, Err, vec_items, vec_len, Result, Vec, sym, ap, ◌∙◌, arith}
+use Rattle.std.proofs.Common.{◌≡◌, ℕ, ◌≤◌, List, length, take, drop, IfOk, Ok, Err, vec_items, Result, Vec, sym, ap, ◌∙◌, arith}
 use Rattle.std.proofs.lemmas.List.{length-append, length-drop, take_at}
 use Rattle.std.specs.declared.alloc.Global.{Global}
 use Rattle.certificate.specs.Certificates.{Fills}
@@ -12,6 +12,6 @@ filled_front bytes before after n f l = (
 )
 
 -- a vector of other items that are the same
-pub made_same : {E : Type 0} (r : Result (Vec ℕ Global) E) (xs ys : List ℕ) → IfOk r (λ v. (vec_items v ≡ xs) × (vec_len v ≡ length xs)) → xs ≡ ys → IfOk r (λ v. vec_items v ≡ ys)
-made_same (Ok v) xs ys h e = h.0 ∙ e
+pub made_same : {E : Type 0} (r : Result (Vec ℕ Global) E) (xs ys : List ℕ) → IfOk r (λ v. vec_items v ≡ xs) → xs ≡ ys → IfOk r (λ v. vec_items v ≡ ys)
+made_same (Ok v) xs ys h e = h ∙ e
 made_same (Err x) xs ys h e = tt

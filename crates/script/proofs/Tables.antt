@@ -3,7 +3,7 @@ use Rattle.std.proofs.Common.{◌≡◌, ℕ, zero, suc, ◌+◌, ◌<◌, Bool,
 use Rattle.std.proofs.lemmas.List.{get_or_default}
 use Rattle.std.specs.Str.{bytes_eq}
 use Rattle.card.specs.declared.part.Part.{Part}
-use Rattle.script.specs.declared.card.Card.{Card}
+use Rattle.script.specs.declared.cards.Card.{Card}
 use Rattle.script.specs.Cards.{card_view, with_part, card_named, part_put}
 
 -- the labels before i are others

@@ -3,7 +3,7 @@ use Rattle.std.specs.Prelude.{ℕ, Bool, cond, List, [], ◌∷◌, Some, None, 
 use Rattle.std.specs.Str.{bytes_eq}
 use Rattle.card.specs.declared.part.Part.{Part}
 use Rattle.card.specs.declared.part.Part.TheVariants as place
-use Rattle.script.specs.declared.card.Card.{Card}
+use Rattle.script.specs.declared.cards.Card.{Card}
 
 -- a card: its label, its number, whether part 4 can be written, and its four parts as bytes
 pub record CardView : Type 0 where

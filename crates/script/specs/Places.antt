@@ -1,7 +1,7 @@
 -- Where the first card of a label stands.
 use Rattle.std.specs.Prelude.{◌≡◌, ℕ, ◌<◌, List, map, length, Some, slice_index_or, slice_set}
 use Rattle.card.specs.declared.part.Part.{Part}
-use Rattle.script.specs.declared.card.Card.{Card}
+use Rattle.script.specs.declared.cards.Card.{Card}
 use Rattle.script.specs.Cards.{CardView, card_view, with_part, card_named, part_put}
 
 -- the card at place i is the first of the label, and a part put there is put into that card

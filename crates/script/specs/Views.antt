@@ -4,9 +4,6 @@ use Rattle.account.specs.declared.verdict.Verdict.{Verdict}
 use Rattle.account.specs.Texts.{id_line, ianda_line, grant_line, fault_line, no_kind_line, card_line}
 use Rattle.certificate.specs.declared.fault.Refusal.{Refusal}
 use Rattle.certificate.specs.declared.fields.Header.{Header}
-use Rattle.certificate.specs.declared.fields.Id.{Id}
-use Rattle.certificate.specs.declared.fields.Ianda.{Ianda}
-use Rattle.certificate.specs.declared.fields.Privilege.{Privilege}
 use Rattle.certificate.specs.Certificates.{Sealed, id_of, ianda_of, privilege_of}
 use Rattle.certificate.specs.Faults.{fault_number}
 use Rattle.role.specs.Roles.{role_number}

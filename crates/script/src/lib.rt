@@ -1,7 +1,7 @@
 // A script, carried out line by line.
 #![tactic(auto)]
 
-mod card;
+mod cards;
 mod issue;
 mod marks;
 mod replay;

@@ -1,5 +1,5 @@
 // What a script has led to so far.
-use crate::card::Card;
+use crate::cards::Card;
 use command::{Key, Kind};
 
 pub(crate) mod calls;

@@ -3,7 +3,7 @@ ghost use Rattle.std.specs.Prelude.{◌≡◌, map, None, MatchOption};
 ghost use Rattle.script.specs.Cards.{card_view, card_named};
 ghost use Rattle.script.specs.Places.{At};
 
-use crate::card::Card;
+use crate::cards::Card;
 use crate::marks::same;
 
 // The place of the first card of a label.

@@ -3,7 +3,7 @@ ghost use Rattle.std.specs.Prelude.{◌≡◌, ◌++◌, OnOk};
 ghost use Rattle.script.specs.Cards.{card_view};
 ghost use Rattle.script.specs.Views.{id_text, ianda_text, grant_text, kind_text, card_text};
 
-use crate::card::Card;
+use crate::cards::Card;
 use crate::marks::verdict;
 use account::{PartLine, card_line, part_line};
 use card::Part;

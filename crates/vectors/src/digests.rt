@@ -73,11 +73,11 @@ fn pattern() -> [u8; 128] {
 struct Parts;
 
 impl Table for Parts {
-    fn row(text: &str) -> Result<(), Fail> {
+    fn row(rt: &impl Abort, text: &str) -> Result<(), Fail> {
         let mut row = Row::new(text);
         let pattern = pattern();
         let message = between(&pattern, 0, row.number() as usize);
-        assert_eq!(digest(message).as_slice(), row.bytes().slice());
+        assert_eq!(rt; digest(message).as_slice(), row.bytes().slice(), "{text}");
         Ok(())
     }
 }

@@ -8,6 +8,7 @@ use crate::kinds::Kind;
 use crate::rows::{Bytes, Row, Table, array, between, every};
 use certificate::{Ianda, Id, Privilege};
 use clearance::{Class, Clearance, Compartments};
+use std::process::Abort;
 use std::test::*;
 
 // The length of the message, issuer serial first last subject: the certificate.
@@ -102,37 +103,47 @@ impl Sealed {
 const UNTOUCHED: [u8; 128] = [0xa5; 128];
 
 // Whether these bytes were written at the start of a buffer, their length was answered, and the rest of the buffer is as it was.
-fn wrote(out: &[u8; 128], len: usize, expected: &[u8]) -> Result<(), Fail> {
-    assert_eq!(len, expected.len());
-    assert_eq!(between(out, 0, len), expected);
-    assert_eq!(between(out, len, 128), between(&UNTOUCHED, len, 128));
+fn wrote(
+    rt: &impl Abort,
+    text: &str,
+    out: &[u8; 128],
+    len: usize,
+    expected: &[u8],
+) -> Result<(), Fail> {
+    assert_eq!(rt; len, expected.len(), "{text}");
+    assert_eq!(rt; between(out, 0, len), expected, "{text}");
+    assert_eq!(rt;
+        between(out, len, 128),
+        between(&UNTOUCHED, len, 128),
+        "{text}"
+    );
     Ok(())
 }
 
 // Whether the certificate is read with these fields.
-fn read<K: Kind>(x: K, sealed: &Sealed) -> Result<(), Fail> {
+fn read<K: Kind>(rt: &impl Abort, text: &str, x: K, sealed: &Sealed) -> Result<(), Fail> {
     match K::open(sealed.whole.slice()) {
         Ok(y) => {
-            assert_eq!(y.fields.parts(), x.parts());
-            assert_eq!(y.message, sealed.message());
-            assert_eq!(y.mark, sealed.mark());
+            assert_eq!(rt; y.fields.parts(), x.parts(), "{text}");
+            assert_eq!(rt; y.message, sealed.message(), "{text}");
+            assert_eq!(rt; y.mark, sealed.mark(), "{text}");
             Ok(())
         }
         Err(e) => {
             let (number, at) = e.told();
-            Err(Fail::new(format_args!("refused: {number} at {at}")))
+            Err(Fail::new(format_args!("refused: {number} at {at}: {text}")))
         }
     }
 }
 
 // Whether these fields are written as the message and as the certificate.
-fn written<K: Kind>(x: K, sealed: &Sealed) -> Result<(), Fail> {
+fn written<K: Kind>(rt: &impl Abort, text: &str, x: K, sealed: &Sealed) -> Result<(), Fail> {
     let mut out = UNTOUCHED;
     let len = x.message(&mut out);
-    wrote(&out, len, sealed.message())?;
+    wrote(rt, text, &out, len, sealed.message())?;
     let mut out = UNTOUCHED;
     let len = x.write(sealed.mark(), &mut out);
-    wrote(&out, len, sealed.whole.slice())
+    wrote(rt, text, &out, len, sealed.whole.slice())
 }
 
 // The certificates of a kind that are read.
@@ -141,18 +152,18 @@ struct Good<K> {
 }
 
 impl<K: Kind> Table for Good<K> {
-    fn row(text: &str) -> Result<(), Fail> {
+    fn row(rt: &impl Abort, text: &str) -> Result<(), Fail> {
         let mut row = Row::new(text);
         let message_len = row.number() as usize;
         let numbers = row.numbers();
         let whole = row.bytes();
         let sealed = Sealed { whole, message_len };
         let Some(x) = K::make(numbers, sealed.template()) else {
-            return Err(Fail::new("no role, or no clearance"));
+            return Err(Fail::new(format_args!("no role, or no clearance: {text}")));
         };
-        assert_eq!(x.parts().0, numbers);
-        read(x, &sealed)?;
-        written(x, &sealed)
+        assert_eq!(rt; x.parts().0, numbers, "{text}");
+        read(rt, text, x, &sealed)?;
+        written(rt, text, x, &sealed)
     }
 }
 

@@ -295,10 +295,10 @@ struct Refused<K> {
 }
 
 impl<K: Kind> Table for Refused<K> {
-    fn row(text: &str) -> Result<(), Fail> {
+    fn row(rt: &impl Abort, text: &str) -> Result<(), Fail> {
         let mut row = Row::new(text);
         let expected = expected(&mut row);
-        assert_eq!(told::<K>(row.bytes().slice()), expected);
+        assert_eq!(rt; told::<K>(row.bytes().slice()), expected, "{text}");
         Ok(())
     }
 }
@@ -308,7 +308,7 @@ fn prefixes<K: Kind>(rt: &impl Abort, text: &str) -> Result<(), Fail> {
     let bytes = hex(text);
     let whole = bytes.slice();
     for n in 0..whole.len() {
-        assert_eq!(rt; told::<K>(between(whole, 0, n)), (40, 0), "{}", n);
+        assert_eq!(rt; told::<K>(between(whole, 0, n)), (40, 0), "{n}");
     }
     assert_eq!(rt; told::<K>(whole), (0, 0));
     Ok(())
@@ -346,14 +346,14 @@ fn truncated(rt: HostRuntime) -> Result<(), Fail> {
 struct Flipped;
 
 impl Table for Flipped {
-    fn row(text: &str) -> Result<(), Fail> {
+    fn row(rt: &impl Abort, text: &str) -> Result<(), Fail> {
         let whole = hex(PRIVILEGE);
         let mut row = Row::new(text);
         let at = row.number() as usize;
         for bit in 0..8 {
             let expected = expected(&mut row);
             let bytes = whole.flipped(at, bit);
-            assert_eq!(told::<Privilege<Class>>(bytes.slice()), expected);
+            assert_eq!(rt; told::<Privilege<Class>>(bytes.slice()), expected, "{text}");
         }
         Ok(())
     }

@@ -5,14 +5,14 @@ use std::test::*;
 // What a table is about.
 pub trait Table {
     // Whether a row is right.
-    fn row(text: &str) -> Result<(), Fail>;
+    fn row(rt: &impl Abort, text: &str) -> Result<(), Fail>;
 }
 
 // Whether a table has so many rows, and each is right.
 pub(crate) fn every<T: Table>(rt: &impl Abort, table: &str, count: usize) -> Result<(), Fail> {
     let mut seen = 0usize;
     for text in table.lines() {
-        T::row(text).note(text)?;
+        T::row(rt, text)?;
         seen = seen.saturating_add(1);
     }
     assert_eq!(rt; seen, count);

@@ -5,7 +5,7 @@ ghost use Rattle.script.specs.Cards.{card_named};
 ghost use Rattle.script.specs.Issues.{sealed_body, grant_bytes};
 ghost use Rattle.script.specs.Sessions.{session_view, fresh, card_step, put_step, part_step, grant_put, grant_step, Shows};
 
-use crate::card::Card;
+use crate::cards::Card;
 use crate::issue::{issued, issued_grant};
 use crate::session::Session;
 use crate::table::place_of;
@@ -44,7 +44,7 @@ impl Session {
         if let Some(_) = place_of(self.cards.as_slice(), label) {
             return Ok(Some(Reason::CardNamedBefore));
         }
-        let card = Card::new(self.cards.allocator(), label, number, writable)?;
+        let card = Card::new(*self.cards.allocator(), label, number, writable)?;
         self.cards.push(card)?;
         Ok(None)
     }
@@ -86,7 +86,7 @@ impl Session {
         if !self.knows(label) {
             return Ok(Some(Reason::NoSuchCard));
         }
-        let bytes = bytes_of(self.cards.allocator(), hex)?;
+        let bytes = bytes_of(*self.cards.allocator(), hex)?;
         if bytes.len() > PART {
             return Ok(Some(Reason::Declined25));
         }
@@ -103,7 +103,12 @@ impl Session {
     ) -> Result<Option<Reason>, AllocError>
         ensures { IfOk result (λ why. (session_view self.new, why) ≡ put_step (session_view self.old) label.now place (sealed_body self.old.keys.items issuer (T.Certificate.field_bytes fields))) }
     {
-        let bytes = issued(self.cards.allocator(), self.keys.as_slice(), issuer, fields)?;
+        let bytes = issued(
+            *self.cards.allocator(),
+            self.keys.as_slice(),
+            issuer,
+            fields,
+        )?;
         Ok(self.put(label, place, bytes))
     }
 
@@ -116,7 +121,7 @@ impl Session {
     ) -> Result<Option<Reason>, AllocError>
         ensures { IfOk result (λ why. (session_view self.new, why) ≡ grant_put (session_view self.old) label.now place (grant_bytes C.Clearance.of_number C.Clearance.number_of self.old.keys.items grant)) }
     {
-        let issue = issued_grant::<C>(self.cards.allocator(), self.keys.as_slice(), grant)?;
+        let issue = issued_grant::<C>(*self.cards.allocator(), self.keys.as_slice(), grant)?;
         match issue {
             None => Ok(Some(Reason::BadRoleOrClearance)),
             Some(bytes) => Ok(self.put(label, place, bytes)),

@@ -26,7 +26,7 @@ impl Session {
                 Ok(None)
             }
             Command::Seal(words) => {
-                self.keys = keys_of(self.cards.allocator(), words)?;
+                self.keys = keys_of(*self.cards.allocator(), words)?;
                 Ok(None)
             }
             Command::Card {

@@ -9,7 +9,7 @@ loop-byte-init c = hex_none (vec_items c.args.out.now) c.args.bytes.now
 pub loop-byte-preserved : goal.loop-byte-preserved
 loop-byte-preserved c =
     let more = hex_more (vec_items c.args.out.now) c.args.bytes.now c.loop-byte.byte-index c.loop-byte-test.true in
-    c.in-ok-text.ensures ∙ simp (c.loop-byte.invariant, more)
+    c.in_ok-text.ensures ∙ simp (c.loop-byte.invariant, more)
 
 pub returns : goal.returns
 returns c = c.loop-byte.invariant ∙ hex_all (vec_items c.args.out.now) c.args.bytes.now c.loop-byte.byte-index c.loop-byte-test.false

@@ -7,7 +7,7 @@ pub returns : goal.returns
 unfolding header_text
 returns c =
     let o = c.args.out.now in
-    let t0 = c.in-ok-field.ensures in
-    let t1 = after o c.field.new.out c.field-2.new.out _ _ t0 c.in-ok-field-2.ensures in
-    let t2 = after o c.field-2.new.out c.field-3.new.out _ _ t1 c.in-ok-field-3.ensures in
+    let t0 = c.in_ok-field.ensures in
+    let t1 = after o c.field.new.out c.field-2.new.out _ _ t0 c.in_ok-field-2.ensures in
+    let t2 = after o c.field-2.new.out c.field-3.new.out _ _ t1 c.in_ok-field-3.ensures in
     last c.field-4.result o c.field-3.new.out c.field-4.new.out _ _ t2 c.field-4.ensures

@@ -8,17 +8,17 @@ pub loop-b-init : goal.loop-b-init
 unfolding all
 loop-b-init c = refl
 
-pub returns-then-not-is-some : goal.returns-then-not-is-some
+pub returns-then-not-is_some : goal.returns-then-not-is_some
 unfolding is_hex
-returns-then-not-is-some c =
+returns-then-not-is_some c =
     sym (all_no is_hex c.args.word.now c.loop-b.b-index 0 c.loop-b-test.true
-    (ap is_some (sym c.digit.ensures) ∙ sym c.is-some.ensures ∙ c.if-not-is-some.true))
+    (ap is_some (sym c.digit.ensures) ∙ sym c.is_some.ensures ∙ c.if-not-is_some.true))
 
 pub loop-b-preserved : goal.loop-b-preserved
 unfolding is_hex
 loop-b-preserved c =
     all_more is_hex c.args.word.now c.loop-b.b-index 0 c.loop-b-test.true c.loop-b.invariant
-    (ap is_some (sym c.digit.ensures) ∙ sym c.is-some.ensures ∙ c.if-not-is-some.false)
+    (ap is_some (sym c.digit.ensures) ∙ sym c.is_some.ensures ∙ c.if-not-is_some.false)
 
 pub returns : goal.returns
 returns c =

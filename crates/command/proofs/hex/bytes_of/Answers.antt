@@ -9,7 +9,7 @@ loop-i-init c = c.new-bytes.ensures.items
 
 pub loop-i-preserved : goal.loop-i-preserved
 loop-i-preserved c =
-    rw (c.in-ok-push.ensures.items, c.loop-i.invariant, c.nibble-of.ensures.value, c.nibble-of-in-loop-i.ensures.value)
+    rw (c.in_ok-push.ensures.items, c.loop-i.invariant, c.nibble_of.ensures.value, c.nibble_of-in-loop-i.ensures.value)
     (push_more c.args.hex.now c.loop-i.i c.loop-i-test.true)
 
 pub returns : goal.returns

@@ -1,4 +1,4 @@
-use Rattle.std.proofs.Common.{◌≡◌, ◌+◌, ◌/◌, ◌++◌, length, drop, refl, ap, ◌∙◌, arith}
+use Rattle.std.proofs.Common.{◌≡◌, ◌/◌, ◌++◌, length, drop, refl, ap, ◌∙◌, arith}
 use Rattle.command.specs.Words.{unhex}
 use Rattle.command.proofs.Digits.{fill_more, unhex_all}
 use Rattle.command.proofs.hex.fill.Goals as goal
@@ -9,7 +9,7 @@ loop-i-init c = refl
 
 pub loop-i-preserved : goal.loop-i-preserved
 loop-i-preserved c =
-    rw (c.nibble-of.ensures.value, c.nibble-of-in-loop-i.ensures.value)
+    rw (c.nibble_of.ensures.value, c.nibble_of-in-loop-i.ensures.value)
     (fill_more c.args.hex.now c.args.out.now c.loop-i.out c.loop-i.i c.loop-i.invariant c.loop-i-test.true c.requires)
 
 pub returns : goal.returns

@@ -3,4 +3,4 @@ use Rattle.command.proofs.hex.is_hex.Goals as goal
 
 pub returns : goal.returns
 unfolding is_hex_text
-returns c = rw c.all-hex-digits.ensures
+returns c = rw c.all_hex-digits.ensures

@@ -6,5 +6,5 @@ use Rattle.command.proofs.hex.nibble_of.Goals as goal
 pub returns : goal.returns
 unfolding nibble
 returns c =
-    let e : c.unwrap-or.result ≡ nibble c.args.b = c.unwrap-or.ensures ∙ ap (λ o. unwrap_or o 0) c.digit.ensures in
+    let e : c.unwrap_or.result ≡ nibble c.args.b = c.unwrap_or.ensures ∙ ap (λ o. unwrap_or o 0) c.digit.ensures in
     record { value = e; small = rw e (nibble_small c.args.b) }

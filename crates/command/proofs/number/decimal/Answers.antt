@@ -14,23 +14,23 @@ pub loop-b-init : goal.loop-b-init
 unfolding decimal_of all
 loop-b-init c = (refl, refl, omega arith)
 
-pub returns-then-not-is-digit : goal.returns-then-not-is-digit
-returns-then-not-is-digit c =
+pub returns-then-not-is_digit : goal.returns-then-not-is_digit
+returns-then-not-is_digit c =
     number_no_digit c.args.word.now
-    (all_no is_digit c.args.word.now c.loop-b.b-index 0 c.loop-b-test.true (sym c.is-digit.ensures ∙ c.if-not-is-digit.true))
+    (all_no is_digit c.args.word.now c.loop-b.b-index 0 c.loop-b-test.true (sym c.is_digit.ensures ∙ c.if-not-is_digit.true))
 
-pub overflow-sub-n : goal.overflow-sub-n
-overflow-sub-n c = omega (arith, digit_parts _ (sym c.is-digit.ensures ∙ c.if-not-is-digit.false))
+pub overflow_sub-n : goal.overflow_sub-n
+overflow_sub-n c = omega (arith, digit_parts _ (sym c.is_digit.ensures ∙ c.if-not-is_digit.false))
 
-pub overflow-mul-n : goal.overflow-mul-n
-overflow-mul-n c = omega (arith, ten_below c.loop-b.b-index (omega arith), c.loop-b.invariant.2)
+pub overflow_mul-n : goal.overflow_mul-n
+overflow_mul-n c = omega (arith, ten_below c.loop-b.b-index (omega arith), c.loop-b.invariant.2)
 
-pub overflow-add-n : goal.overflow-add-n
-overflow-add-n c = omega (arith, ten_below c.loop-b.b-index (omega arith), c.loop-b.invariant.2, digit_parts _ (sym c.is-digit.ensures ∙ c.if-not-is-digit.false))
+pub overflow_add-n : goal.overflow_add-n
+overflow_add-n c = omega (arith, ten_below c.loop-b.b-index (omega arith), c.loop-b.invariant.2, digit_parts _ (sym c.is_digit.ensures ∙ c.if-not-is_digit.false))
 
 pub loop-b-preserved : goal.loop-b-preserved
 loop-b-preserved c =
-    let d = sym c.is-digit.ensures ∙ c.if-not-is-digit.false in (
+    let d = sym c.is_digit.ensures ∙ c.if-not-is_digit.false in (
       ap (λ v. v * 10 + (get_or c.args.word.now c.loop-b.b-index 0 - 48)) c.loop-b.invariant.0 ∙ sym (decimal_more c.args.word.now c.loop-b.b-index c.loop-b-test.true),
       all_more is_digit c.args.word.now c.loop-b.b-index 0 c.loop-b-test.true c.loop-b.invariant.1 d,
       ten_more c.loop-b.n (get_or c.args.word.now c.loop-b.b-index 0 - 48) c.loop-b.b-index c.loop-b.invariant.2 (omega (arith, digit_parts _ d)),

@@ -17,4 +17,4 @@ returns g c =
     let t = (filled_front _ _ _ _ c.message-n.ensures c.message-n.array_long).1 in
     let w = (filled_front _ _ _ _ c.write-m.ensures c.write-m.array_long).1 in
     let mark = c.mark_by-mark.ensures ∙ ap (mark_by c.args.keys.now _) (c.front.ensures ∙ t) in
-    made_same c.from_slice.result _ _ c.from_slice.ensures.made (c.front-2.ensures ∙ w ∙ ap (certificate (g.T.Certificate.field_bytes c.args.fields)) mark)
+    made_same c.from_slice.result _ _ c.from_slice.ensures.items (c.front-2.ensures ∙ w ∙ ap (certificate (g.T.Certificate.field_bytes c.args.fields)) mark)

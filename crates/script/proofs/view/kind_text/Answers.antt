@@ -11,4 +11,4 @@ returns-in-Class c = rw (c.in-Some.is, c.in-Class.is) c.grant_text.ensures
 
 pub returns-in-Compartments : goal.returns-in-Compartments
 unfolding kind_text
-returns-in-Compartments c = rw (c.in-Some.is, c.in-Compartments.is) c.grant_text_in-Compartments.ensures
+returns-in-Compartments c = rw (c.in-Some.is, c.in-Compartments.is) c.grant_text-in-Compartments.ensures

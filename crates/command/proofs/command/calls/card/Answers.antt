@@ -2,22 +2,22 @@ use Rattle.command.specs.Reading.{followed, finished}
 use Rattle.command.specs.Commands.{card_command}
 use Rattle.command.proofs.command.calls.card.Goals as goal
 
-pub returns-in-err-label : goal.returns-in-err-label
+pub returns-in_err-label : goal.returns-in_err-label
 unfolding card_command followed finished
-returns-in-err-label c = rw (c.from-residual.ensures, c.in-err-label.ensures)
+returns-in_err-label c = rw (c.from_residual.ensures, c.in_err-label.ensures)
 
-pub returns-in-err-number : goal.returns-in-err-number
+pub returns-in_err-number : goal.returns-in_err-number
 unfolding card_command followed finished
-returns-in-err-number c = rw (c.from-residual-in-err-number.ensures, c.in-ok-label.ensures, c.in-err-number.ensures)
+returns-in_err-number c = rw (c.from_residual-in_err-number.ensures, c.in_ok-label.ensures, c.in_err-number.ensures)
 
-pub returns-in-err-writable : goal.returns-in-err-writable
+pub returns-in_err-writable : goal.returns-in_err-writable
 unfolding card_command followed finished
-returns-in-err-writable c = rw (c.from-residual-in-err-writable.ensures, c.in-ok-label.ensures, c.in-ok-number.ensures, c.in-err-writable.ensures)
+returns-in_err-writable c = rw (c.from_residual-in_err-writable.ensures, c.in_ok-label.ensures, c.in_ok-number.ensures, c.in_err-writable.ensures)
 
-pub returns-in-err-end : goal.returns-in-err-end
+pub returns-in_err-end : goal.returns-in_err-end
 unfolding card_command followed finished
-returns-in-err-end c = rw (c.from-residual-in-err-end.ensures, c.in-ok-label.ensures, c.in-ok-number.ensures, c.in-ok-writable.ensures, c.in-err-end.ensures)
+returns-in_err-end c = rw (c.from_residual-in_err-end.ensures, c.in_ok-label.ensures, c.in_ok-number.ensures, c.in_ok-writable.ensures, c.in_err-end.ensures)
 
 pub returns : goal.returns
 unfolding card_command followed finished
-returns c = rw (c.in-ok-label.ensures, c.in-ok-number.ensures, c.in-ok-writable.ensures, c.in-ok-end.ensures)
+returns c = rw (c.in_ok-label.ensures, c.in_ok-number.ensures, c.in_ok-writable.ensures, c.in_ok-end.ensures)

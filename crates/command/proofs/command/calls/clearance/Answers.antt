@@ -2,14 +2,14 @@ use Rattle.command.specs.Reading.{followed, finished}
 use Rattle.command.specs.Commands.{clearance_command}
 use Rattle.command.proofs.command.calls.clearance.Goals as goal
 
-pub returns-in-err-kind : goal.returns-in-err-kind
+pub returns-in_err-kind : goal.returns-in_err-kind
 unfolding clearance_command followed finished
-returns-in-err-kind c = rw (c.from-residual.ensures, c.in-err-kind.ensures)
+returns-in_err-kind c = rw (c.from_residual.ensures, c.in_err-kind.ensures)
 
-pub returns-in-err-end : goal.returns-in-err-end
+pub returns-in_err-end : goal.returns-in_err-end
 unfolding clearance_command followed finished
-returns-in-err-end c = rw (c.from-residual-in-err-end.ensures, c.in-ok-kind.ensures, c.in-err-end.ensures)
+returns-in_err-end c = rw (c.from_residual-in_err-end.ensures, c.in_ok-kind.ensures, c.in_err-end.ensures)
 
 pub returns : goal.returns
 unfolding clearance_command followed finished
-returns c = rw (c.in-ok-kind.ensures, c.in-ok-end.ensures)
+returns c = rw (c.in_ok-kind.ensures, c.in_ok-end.ensures)

@@ -2,22 +2,22 @@ use Rattle.command.specs.Reading.{followed, finished}
 use Rattle.command.specs.Commands.{id_command}
 use Rattle.command.proofs.command.calls.id.Goals as goal
 
-pub returns-in-err-label : goal.returns-in-err-label
+pub returns-in_err-label : goal.returns-in_err-label
 unfolding id_command followed finished
-returns-in-err-label c = rw (c.from-residual.ensures, c.in-err-label.ensures)
+returns-in_err-label c = rw (c.from_residual.ensures, c.in_err-label.ensures)
 
-pub returns-in-err-header : goal.returns-in-err-header
+pub returns-in_err-header : goal.returns-in_err-header
 unfolding id_command followed finished
-returns-in-err-header c = rw (c.from-residual-in-err-header.ensures, c.in-ok-label.ensures, c.in-err-header.ensures)
+returns-in_err-header c = rw (c.from_residual-in_err-header.ensures, c.in_ok-label.ensures, c.in_err-header.ensures)
 
-pub returns-in-err-subject : goal.returns-in-err-subject
+pub returns-in_err-subject : goal.returns-in_err-subject
 unfolding id_command followed finished
-returns-in-err-subject c = rw (c.from-residual-in-err-subject.ensures, c.in-ok-label.ensures, c.in-ok-header.ensures, c.in-err-subject.ensures)
+returns-in_err-subject c = rw (c.from_residual-in_err-subject.ensures, c.in_ok-label.ensures, c.in_ok-header.ensures, c.in_err-subject.ensures)
 
-pub returns-in-err-end : goal.returns-in-err-end
+pub returns-in_err-end : goal.returns-in_err-end
 unfolding id_command followed finished
-returns-in-err-end c = rw (c.from-residual-in-err-end.ensures, c.in-ok-label.ensures, c.in-ok-header.ensures, c.in-ok-subject.ensures, c.in-err-end.ensures)
+returns-in_err-end c = rw (c.from_residual-in_err-end.ensures, c.in_ok-label.ensures, c.in_ok-header.ensures, c.in_ok-subject.ensures, c.in_err-end.ensures)
 
 pub returns : goal.returns
 unfolding id_command followed finished
-returns c = rw (c.in-ok-label.ensures, c.in-ok-header.ensures, c.in-ok-subject.ensures, c.in-ok-end.ensures)
+returns c = rw (c.in_ok-label.ensures, c.in_ok-header.ensures, c.in_ok-subject.ensures, c.in_ok-end.ensures)

@@ -2,22 +2,22 @@ use Rattle.command.specs.Reading.{followed, finished}
 use Rattle.command.specs.Commands.{part_command}
 use Rattle.command.proofs.command.calls.part.Goals as goal
 
-pub returns-in-err-label : goal.returns-in-err-label
+pub returns-in_err-label : goal.returns-in_err-label
 unfolding part_command followed finished
-returns-in-err-label c = rw (c.from-residual.ensures, c.in-err-label.ensures)
+returns-in_err-label c = rw (c.from_residual.ensures, c.in_err-label.ensures)
 
-pub returns-in-err-place : goal.returns-in-err-place
+pub returns-in_err-place : goal.returns-in_err-place
 unfolding part_command followed finished
-returns-in-err-place c = rw (c.from-residual-in-err-place.ensures, c.in-ok-label.ensures, c.in-err-place.ensures)
+returns-in_err-place c = rw (c.from_residual-in_err-place.ensures, c.in_ok-label.ensures, c.in_err-place.ensures)
 
-pub returns-in-err-hex : goal.returns-in-err-hex
+pub returns-in_err-hex : goal.returns-in_err-hex
 unfolding part_command followed finished
-returns-in-err-hex c = rw (c.from-residual-in-err-hex.ensures, c.in-ok-label.ensures, c.in-ok-place.ensures, c.in-err-hex.ensures)
+returns-in_err-hex c = rw (c.from_residual-in_err-hex.ensures, c.in_ok-label.ensures, c.in_ok-place.ensures, c.in_err-hex.ensures)
 
-pub returns-in-err-end : goal.returns-in-err-end
+pub returns-in_err-end : goal.returns-in_err-end
 unfolding part_command followed finished
-returns-in-err-end c = rw (c.from-residual-in-err-end.ensures, c.in-ok-label.ensures, c.in-ok-place.ensures, c.in-ok-hex.ensures, c.in-err-end.ensures)
+returns-in_err-end c = rw (c.from_residual-in_err-end.ensures, c.in_ok-label.ensures, c.in_ok-place.ensures, c.in_ok-hex.ensures, c.in_err-end.ensures)
 
 pub returns : goal.returns
 unfolding part_command followed finished
-returns c = rw (c.in-ok-label.ensures, c.in-ok-place.ensures, c.in-ok-hex.ensures, c.in-ok-end.ensures)
+returns c = rw (c.in_ok-label.ensures, c.in_ok-place.ensures, c.in_ok-hex.ensures, c.in_ok-end.ensures)

@@ -4,20 +4,20 @@ use Rattle.command.specs.Keys.{keys_of}
 use Rattle.command.specs.Commands.{seal_command}
 use Rattle.command.proofs.command.calls.seal.Goals as goal
 
-pub returns-in-err-hmac : goal.returns-in-err-hmac
+pub returns-in_err-hmac : goal.returns-in_err-hmac
 unfolding seal_command followed
-returns-in-err-hmac c = rw (c.from-residual.ensures, c.in-err-hmac.ensures)
+returns-in_err-hmac c = rw (c.from_residual.ensures, c.in_err-hmac.ensures)
 
-pub returns-in-err-word : goal.returns-in-err-word
+pub returns-in_err-word : goal.returns-in_err-word
 unfolding seal_command followed
-returns-in-err-word c = rw (c.from-residual-in-err-word.ensures, c.in-ok-hmac.ensures, c.in-err-word.ensures.reads)
+returns-in_err-word c = rw (c.from_residual-in_err-word.ensures, c.in_ok-hmac.ensures, c.in_err-word.ensures.reads)
 
-pub returns-then-not-are-keys : goal.returns-then-not-are-keys
+pub returns-then-not-are_keys : goal.returns-then-not-are_keys
 unfolding seal_command followed
-returns-then-not-are-keys c =
-    rw (c.in-ok-hmac.ensures, c.in-ok-word.ensures.reads, sym c.are-keys.ensures ∙ c.if-not-are-keys.true)
+returns-then-not-are_keys c =
+    rw (c.in_ok-hmac.ensures, c.in_ok-word.ensures.reads, sym c.are_keys.ensures ∙ c.if-not-are_keys.true)
 
 pub returns : goal.returns
 unfolding seal_command followed keys_of
 returns c =
-    rw (c.in-ok-hmac.ensures, c.in-ok-word.ensures.reads, sym c.are-keys.ensures ∙ c.if-not-are-keys.false)
+    rw (c.in_ok-hmac.ensures, c.in_ok-word.ensures.reads, sym c.are_keys.ensures ∙ c.if-not-are_keys.false)

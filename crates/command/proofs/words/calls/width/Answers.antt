@@ -4,16 +4,16 @@ use Rattle.command.specs.Words.{in_word}
 use Rattle.std.proofs.lemmas.Bool.{not_from_true, not_from_false}
 use Rattle.command.proofs.words.calls.width.Goals as goal
 
-pub returns-then-is-blank : goal.returns-then-is-blank
+pub returns-then-is_blank : goal.returns-then-is_blank
 unfolding in_word
-returns-then-is-blank c =
-    let e = prefix_len-drop_no in_word c.args.text.now c.loop-i.i 0 c.loop-i-test.true (not_from_true _ (sym c.is-blank.ensures ∙ c.if-is-blank.true)) in
+returns-then-is_blank c =
+    let e = prefix_len-drop_no in_word c.args.text.now c.loop-i.i 0 c.loop-i-test.true (not_from_true _ (sym c.is_blank.ensures ∙ c.if-is_blank.true)) in
     record { count = omega (arith, e, c.loop-i.invariant); within = omega arith }
 
 pub loop-i-preserved : goal.loop-i-preserved
 unfolding in_word
 loop-i-preserved c =
-    let e = prefix_len-drop_yes in_word c.args.text.now c.loop-i.i 0 c.loop-i-test.true (not_from_false _ (sym c.is-blank.ensures ∙ c.if-is-blank.false)) in
+    let e = prefix_len-drop_yes in_word c.args.text.now c.loop-i.i 0 c.loop-i-test.true (not_from_false _ (sym c.is_blank.ensures ∙ c.if-is_blank.false)) in
     omega (arith, e, c.loop-i.invariant)
 
 pub returns : goal.returns

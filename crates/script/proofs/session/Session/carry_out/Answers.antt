@@ -13,13 +13,13 @@ pub returns-in-Clearance : goal.returns-in-Clearance
 unfolding carried_out account_of
 returns-in-Clearance c = rw c.in-Clearance.is (record { after = refl; printed = sym (append-nil _) })
 
-pub returns-in_ok-self : goal.returns-in_ok-self
+pub returns-in_ok-self-in-Seal : goal.returns-in_ok-self-in-Seal
 unfolding carried_out account_of
-returns-in_ok-self c =
+returns-in_ok-self-in-Seal c =
     let s = c.args.self.now in
     rw c.in-Seal.is
     (record {
-      after = ap {B = Step} (λ ks. (record { kind = s.kind; keys = ks; cards = (session_view s).cards }, None)) c.in_ok-self.ensures;
+      after = ap {B = Step} (λ ks. (record { kind = s.kind; keys = ks; cards = (session_view s).cards }, None)) c.in_ok-self-in-Seal.ensures;
       printed = sym (append-nil _);
     })
 

@@ -2,7 +2,7 @@
 ghost use Rattle.std.specs.Prelude.{◌≡◌, IfOk};
 ghost use Rattle.script.specs.Cards.{card_view, new_card, with_part};
 
-use crate::card::Card;
+use crate::cards::Card;
 use card::Part;
 use std::alloc::{AllocError, Global};
 
