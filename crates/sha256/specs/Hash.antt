@@ -1,6 +1,6 @@
 -- SHA-256 as FIPS 180-4 defines it; the numbers are those of its sections. A byte is a number below 2^8, a word a number below 2^32, and a
 -- message is a list of bytes.
-use Rattle.std.specs.Prelude.{ℕ, zero, suc, ◌+◌, ◌-◌, ◌*◌, ◌/◌, ◌%◌, ◌^◌, List, [], ◌∷◌, ◌++◌, map, length, take, drop, replicate, bit_and, bit_or, bit_xor, slice_index, slice_index_or}
+use Rattle.std.specs.Prelude.{ℕ, zero, suc, ◌+◌, ◌-◌, ◌*◌, ◌/◌, ◌%◌, ◌^◌, List, [], ◌∷◌, ◌++◌, map, length, take, drop, replicate, bit_and, bit_or, bit_xor, slice_index}
 use Rattle.std.specs.List.{flat_map, range_with_len}
 use Rattle.sha256.specs.declared.words.Words.{Words}
 
@@ -98,7 +98,7 @@ block_words block = map (word block) (range_with_len 0 16)
 -- the word that follows the words ws: with t for their number, σ1 (W t-2) + W t-7 + σ0 (W t-15) + W t-16
 unfoldable pub next_word : List ℕ → ℕ
 next_word ws =
-    σ1 (slice_index ws (length ws - 2)) ⊞ slice_index_or ws (length ws - 7) 0 ⊞ σ0 (slice_index ws (length ws - 15)) ⊞ slice_index_or ws (length ws - 16) 0
+    σ1 (slice_index ws (length ws - 2)) ⊞ slice_index ws (length ws - 7) ⊞ σ0 (slice_index ws (length ws - 15)) ⊞ slice_index ws (length ws - 16)
 
 -- the words ws and the n words that follow them
 unfoldable pub extended : ℕ → List ℕ → List ℕ
