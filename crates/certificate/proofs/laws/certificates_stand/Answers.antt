@@ -1,3 +1,4 @@
+use Rattle.std.proofs.Common.{refl}
 use Rattle.certificate.proofs.Certificates.{id_back, id_one, ianda_back, ianda_one, privilege_back, privilege_one}
 use Rattle.certificate.proofs.laws.certificates_stand.Goals as goal
 
@@ -6,6 +7,7 @@ returns g c =
     let kind = g.C.Clearance in
     let laws = g.met.C.Clearance in
     record {
+      answer = refl;
       id_back = id_back;
       id_one = id_one;
       ianda_back = ianda_back;
