@@ -1,15 +1,22 @@
 -- The lines of an account, as lists of bytes.
-use Rattle.std.specs.Prelude.{ℕ, ◌/◌, ◌%◌, Bool, true, false, List, [], ◌∷◌, ◌++◌, codes, decimal, slice_index}
+use Rattle.std.specs.Prelude.{ℕ, ◌/◌, ◌%◌, Bool, true, false, List, [], ◌∷◌, ◌++◌, codes, decimal, flat_map}
+use Rattle.std.specs.Char.{digit_char}
 use Rattle.certificate.specs.declared.fields.Base.{Base}
 use Rattle.certificate.specs.declared.fields.Header.{Header}
 use Rattle.certificate.specs.declared.fields.Ianda.{Ianda as IandaFields}
 use Rattle.certificate.specs.declared.fields.Id.{Id as IdFields}
+use Rattle.certificate.specs.declared.fields.Privilege.{Privilege as PrivilegeFields}
+use Rattle.certificate.specs.declared.fault.Refusal.{Refusal}
+use Rattle.certificate.specs.Faults.{fault_number}
+use Rattle.role.specs.declared.role.Role.{Role}
+use Rattle.role.specs.Roles.{role_number}
+use Rattle.card.specs.Declines.{card_number}
 use Rattle.card.specs.declared.part.Part.{Part}
 use Rattle.card.specs.declared.part.Part.TheVariants.{Id, Privilege, Ianda, Authorisation}
 use Rattle.account.specs.declared.lines.PartLine.{PartLine}
 use Rattle.account.specs.declared.lines.PartLine.TheVariants as line
 use Rattle.account.specs.declared.reason.Reason.{Reason}
-use Rattle.account.specs.declared.reason.Reason.TheVariants.{NotUnderstood, NoSuchCard, CardNamedBefore, NoClearanceKind, BadRoleOrClearance, Declined25}
+use Rattle.account.specs.declared.reason.Reason.TheVariants.{NotUnderstood, NoSuchCard, CardNamedBefore, NoClearanceKind, BadRoleOrClearance, Declined}
 use Rattle.account.specs.declared.verdict.Verdict.{Verdict}
 use Rattle.account.specs.declared.verdict.Verdict.TheVariants.{Good, Bad, Unchecked}
 
@@ -17,17 +24,16 @@ use Rattle.account.specs.declared.verdict.Verdict.TheVariants.{Good, Bad, Unchec
 abbrev pub newline : List ℕ
 newline = 10 ∷ []
 
--- the hexadecimal digit of a number below 16
-abbrev pub digit_of : ℕ → ℕ
-digit_of d = slice_index (codes "0123456789abcdef") d
+-- a byte as two hexadecimal digits
+abbrev pub byte_text : ℕ → List ℕ
+byte_text b = digit_char (b / 16) ∷ digit_char (b % 16) ∷ []
 
 -- two digits for each byte
-unfoldable pub hex_text : List ℕ → List ℕ
-hex_text [] = []
-hex_text (b ∷ bs) = digit_of (b / 16) ∷ digit_of (b % 16) ∷ hex_text bs
+abbrev pub hex_text : List ℕ → List ℕ
+hex_text bytes = flat_map byte_text bytes
 
 -- a name and its number, with a space before each
-unfoldable pub field_text : List ℕ → ℕ → List ℕ
+abbrev pub field_text : List ℕ → ℕ → List ℕ
 field_text name n = codes " " ++ name ++ codes " " ++ decimal n
 
 -- what every certificate begins with
@@ -37,6 +43,10 @@ header_text h = field_text (codes "issuer") h.identity.issuer ++ field_text (cod
 -- what a certificate rests on
 unfoldable pub base_text : Base → List ℕ
 base_text b = field_text (codes "base-issuer") b.identity.issuer ++ field_text (codes "base-serial") b.identity.serial ++ field_text (codes "card") b.card
+
+-- what a privilege or an authorisation certificate grants: a role and a clearance, shown as their numbers
+unfoldable pub rights_text : Role → ℕ → List ℕ
+rights_text role clearance = field_text (codes "role") (role_number role) ++ field_text (codes "clearance") clearance
 
 -- how a line on a part begins
 abbrev pub place_text : Part → List ℕ
@@ -52,7 +62,7 @@ verdict_text Bad = codes "bad"
 verdict_text Unchecked = codes "unchecked"
 
 -- how a line on a certificate ends
-unfoldable pub mark_text : Verdict → List ℕ
+abbrev pub mark_text : Verdict → List ℕ
 mark_text v = codes " mark " ++ verdict_text v ++ newline
 
 -- the line of an ID certificate
@@ -60,16 +70,16 @@ unfoldable pub id_line : IdFields → Verdict → List ℕ
 id_line c v = place_text Id ++ header_text c.header ++ field_text (codes "subject") c.subject ++ mark_text v
 
 -- the line of a privilege or an authorisation certificate
-unfoldable pub grant_line : Part → Header → Base → ℕ → ℕ → Verdict → List ℕ
-grant_line p h b role clearance v = place_text p ++ header_text h ++ base_text b ++ field_text (codes "role") role ++ field_text (codes "clearance") clearance ++ mark_text v
+unfoldable pub grant_line : Part → PrivilegeFields ℕ → Verdict → List ℕ
+grant_line p g v = place_text p ++ header_text g.header ++ base_text g.base ++ rights_text g.role g.clearance ++ mark_text v
 
 -- the line of an I&A certificate
 unfoldable pub ianda_line : IandaFields → Verdict → List ℕ
 ianda_line c v = place_text Ianda ++ header_text c.header ++ base_text c.base ++ codes " template " ++ hex_text c.template ++ mark_text v
 
 -- the line of a part whose bytes are no certificate: the fault's number, and where it is
-unfoldable pub fault_line : Part → ℕ → ℕ → List ℕ
-fault_line p fault at = place_text p ++ field_text (codes "fault") fault ++ field_text (codes "at") at ++ newline
+unfoldable pub fault_line : Part → Refusal → List ℕ
+fault_line p e = place_text p ++ field_text (codes "fault") (fault_number e.fault) ++ field_text (codes "at") e.at ++ newline
 
 -- the line of a part for which there is no clearance kind
 unfoldable pub no_kind_line : Part → List ℕ
@@ -79,8 +89,8 @@ no_kind_line p = place_text p ++ codes " no clearance kind" ++ newline
 abbrev pub part_text : PartLine → List ℕ
 part_text (line.Id x v) = id_line x v
 part_text (line.Ianda x v) = ianda_line x v
-part_text (line.Grant p h b role clearance v) = grant_line p h b role clearance v
-part_text (line.Fault p fault at) = fault_line p fault at
+part_text (line.Grant p g v) = grant_line p g v
+part_text (line.Fault p e) = fault_line p e
 part_text (line.NoKind p) = no_kind_line p
 
 -- whether part 4 of a card can be written
@@ -99,7 +109,7 @@ reason_text NoSuchCard = codes "no such card"
 reason_text CardNamedBefore = codes "card named before"
 reason_text NoClearanceKind = codes "no clearance kind"
 reason_text BadRoleOrClearance = codes "bad role or clearance"
-reason_text Declined25 = codes "declined 25"
+reason_text (Declined d) = codes "declined " ++ decimal (card_number d)
 
 -- the line that says so of the script's n-th line
 unfoldable pub refused_line : ℕ → Reason → List ℕ

@@ -2,7 +2,7 @@
 #![tactic(auto)]
 
 mod lines;
-mod out;
+mod pieces;
 mod reason;
 mod show;
 mod verdict;

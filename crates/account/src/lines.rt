@@ -1,7 +1,9 @@
 // The line of a part: what it says, or why it says nothing.
 use crate::verdict::Verdict;
 use card::Part;
-use certificate::{Base, Header, Ianda, Id};
+use certificate::{Ianda, Id, Privilege, Refusal};
+
+pub(crate) mod calls;
 
 #[derive(Clone, Copy)]
 pub enum PartLine {
@@ -9,21 +11,10 @@ pub enum PartLine {
     Id(Id, Verdict),
     // Part 3, likewise.
     Ianda(Ianda, Verdict),
-    // Part 2 or 4, with role and clearance as the numbers that stand for them.
-    Grant {
-        part: Part,
-        header: Header,
-        base: Base,
-        role: u32,
-        clearance: u32,
-        verdict: Verdict,
-    },
-    // The bytes are no certificate: the number of the fault, and its offset.
-    Fault {
-        part: Part,
-        fault: u32,
-        at: usize,
-    },
+    // Part 2 or 4, likewise, with its clearance as the number that stands for it.
+    Grant(Part, Privilege<u32>, Verdict),
+    // The bytes are no certificate.
+    Fault(Part, Refusal),
     // There is no clearance kind to read the part by.
     NoKind(Part),
 }

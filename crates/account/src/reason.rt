@@ -1,4 +1,5 @@
 // Why a line of the script was not carried out.
+use card::CardDecline;
 
 pub(crate) mod calls;
 
@@ -9,5 +10,5 @@ pub enum Reason {
     CardNamedBefore,
     NoClearanceKind,
     BadRoleOrClearance,
-    Declined25,
+    Declined(CardDecline),
 }

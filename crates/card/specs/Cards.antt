@@ -1,5 +1,5 @@
 -- What a slot means, no card or a card, and what the calls on it do.
-use Rattle.std.specs.Prelude.{ℕ, ◌+◌, ◌^◌, ◌<◌, ◌≤◌, Bool, false, cond, ◌&&◌, List, [], ◌++◌, length, drop, Some, None, Option, ◌==◌, nat_le, nat_lt, slice_index}
+use Rattle.std.specs.Prelude.{ℕ, ◌+◌, ◌^◌, ◌<◌, ◌≤◌, Bool, false, cond, ◌&&◌, List, [], ◌++◌, length, drop, Some, None, Option, IfSome, ◌==◌, nat_le, nat_lt, slice_index}
 use Rattle.card.specs.declared.part.Part.{Part}
 use Rattle.card.specs.declared.part.Part.TheVariants.{Id, Privilege, Ianda, Authorisation}
 
@@ -20,9 +20,12 @@ part_of c Ianda = c.ianda
 part_of c Authorisation = c.authorisation
 
 -- the card's number has 32 bits, and none of its parts more than 128 bytes
+abbrev pub CardFits : Card → Type 0
+CardFits c = (c.number < 2 ^ 32) × ((p : Part) → length (part_of c p) ≤ 128)
+
+-- the card fits, if there is one
 abbrev pub Fits : Option Card → Type 0
-Fits None = Unit {0}
-Fits (Some c) = (c.number < 2 ^ 32) × ((p : Part) → length (part_of c p) ≤ 128)
+Fits o = IfSome o CardFits
 
 -- ---- asking for the number
 
@@ -61,10 +64,10 @@ write_code (Some c) b = cond (sequence b) (cond c.writable 0 22) 23
 
 -- the card with other bytes in one part
 abbrev pub with_part : Card → Part → List ℕ → Card
-with_part c Id b = record { number = c.number; id = b; privilege = c.privilege; ianda = c.ianda; authorisation = c.authorisation; writable = c.writable }
-with_part c Privilege b = record { number = c.number; id = c.id; privilege = b; ianda = c.ianda; authorisation = c.authorisation; writable = c.writable }
-with_part c Ianda b = record { number = c.number; id = c.id; privilege = c.privilege; ianda = b; authorisation = c.authorisation; writable = c.writable }
-with_part c Authorisation b = record { number = c.number; id = c.id; privilege = c.privilege; ianda = c.ianda; authorisation = b; writable = c.writable }
+with_part c Id b = record c { id = b }
+with_part c Privilege b = record c { privilege = b }
+with_part c Ianda b = record c { ianda = b }
+with_part c Authorisation b = record c { authorisation = b }
 
 -- the card after a write: with the input as its authorisation; where the write is declined, as it was
 abbrev pub written : Option Card → List ℕ → Option Card
@@ -75,7 +78,7 @@ written (Some c) b = Some (cond (sequence b && c.writable) (with_part c Authoris
 
 -- the same card, not writable
 abbrev pub unwritable : Card → Card
-unwritable c = record { number = c.number; id = c.id; privilege = c.privilege; ianda = c.ianda; authorisation = c.authorisation; writable = false }
+unwritable c = record c { writable = false }
 
 -- the same card, if there is one, never writable
 abbrev pub read_only : Option Card → Option Card

@@ -1,4 +1,4 @@
 pub mod Cards
 pub mod Declines
-pub mod Records
 pub mod Layers
+pub mod Records

@@ -1,18 +1,15 @@
 -- The card that a record holds.
-use Rattle.std.specs.Prelude.{ℕ, List, take, Some, None, Option}
-use Rattle.card.specs.declared.part_bytes.PartBytes.{PartBytes}
-use Rattle.card.specs.declared.record.CardRecord.{CardRecord}
-use Rattle.card.specs.Cards.{Card}
-
--- the bytes of a part: the first `len` of its cells
-abbrev pub bytes_in : PartBytes → List ℕ
-bytes_in b = take b.len b.cells
+use Rattle.card.specs.declared.record.CardRecord.TheInside.{Inside}
+use Rattle.card.specs.Cards.{Card, CardFits}
 
 -- the card of a record
-abbrev pub card_in : CardRecord → Card
-card_in r = record { number = r.number; id = bytes_in r.id; privilege = bytes_in r.privilege; ianda = bytes_in r.ianda; authorisation = bytes_in r.authorisation; writable = r.writable }
+abbrev pub card_in : Inside → Card
+card_in r = record { number = r.number; id = r.id; privilege = r.privilege; ianda = r.ianda; authorisation = r.authorisation; writable = r.writable }
 
--- the card of a record, if there is one
-abbrev pub held_card : Option CardRecord → Option Card
-held_card None = None
-held_card (Some r) = Some (card_in r)
+-- the record of a card
+abbrev pub record_of : Card → Inside
+record_of c = record { number = c.number; id = c.id; privilege = c.privilege; ianda = c.ianda; authorisation = c.authorisation; writable = c.writable }
+
+-- what a record holds is a card that fits
+abbrev pub HoldsCard : Inside → Type 0
+HoldsCard r = CardFits (card_in r)

@@ -1,10 +1,8 @@
 // Cards, the slots that hold them, and a layer over slots.
 #![tactic(auto)]
 
-mod bytes;
 mod decline;
 mod part;
-mod part_bytes;
 mod read_only;
 mod record;
 mod record_slot;
@@ -111,6 +109,8 @@ mod tests {
         let shut = Err(SlotDecline::NotWritable);
         assert_eq!(rt; answers, [no, no, shut, shut]);
         assert_eq!(rt; layer.read(Part::Authorisation, &mut []), Ok(0));
+        let card = held.card();
+        assert!(rt; matches!(card, Some(card) if card.part(Part::Authorisation).is_empty()));
         reads(&rt, &layer);
         Ok(())
     }
@@ -123,7 +123,7 @@ mod tests {
 
     #[test]
     fn numbers(rt: HostRuntime) {
-        assert_eq!(rt; SlotDecline::NoCard.number(), 20);
-        assert_eq!(rt; CardDecline::PartTooLong.number(), 25);
+        assert_eq!(rt; u32::from(SlotDecline::NoCard), 20);
+        assert_eq!(rt; u32::from(CardDecline::PartTooLong), 25);
     }
 }

@@ -1,5 +1,5 @@
 // The four parts of a card, in their order.
-#[derive(Clone, Copy)]
+#[derive(Clone, Copy, PartialEq, Eq, Debug)]
 pub enum Part {
     Id,
     Privilege,

@@ -1,17 +1,29 @@
 // A card as a record.
-ghost use Rattle.std.specs.Prelude.{◌^◌, ◌<◌};
-
-use crate::part_bytes::PartBytes;
+use fixed::FixedBytes;
+use std::marker::Model;
 
 pub mod calls;
 
 #[derive(Clone, Copy)]
 pub struct CardRecord {
-    pub(crate) number: u32,
-    pub(crate) id: PartBytes,
-    pub(crate) privilege: PartBytes,
-    pub(crate) ianda: PartBytes,
-    pub(crate) authorisation: PartBytes,
-    pub(crate) writable: bool,
-    ghost bits: { number < 2 ^ 32 },
+    number: u32,
+    id: FixedBytes<128>,
+    privilege: FixedBytes<128>,
+    ianda: FixedBytes<128>,
+    authorisation: FixedBytes<128>,
+    writable: bool,
+}
+
+impl Model for CardRecord {
+    ghost use Rattle.card.specs.Cards.{Card};
+
+    ghost Value = { Card };
+
+    ghost use Rattle.card.specs.Records.{card_in, record_of, HoldsCard};
+
+    ghost view = { card_in };
+
+    ghost invariant = { HoldsCard };
+
+    ghost inverse = { record_of };
 }

@@ -1,14 +1,19 @@
 // What may be written to a card.
-ghost use Rattle.std.specs.Prelude.{◌≡◌};
+ghost use Rattle.std.specs.Prelude.{◌≡◌, cond, Ok, Err};
 ghost use Rattle.card.specs.Cards.{sequence};
+ghost use Rattle.card.specs.declared.decline.SlotDecline.TheVariants.{NotSequence};
 
-// Whether the bytes are one SEQUENCE of at most 128 bytes that fills them.
-pub(crate) fn is_sequence(bytes: &[u8]) -> bool
-    ensures { result ≡ sequence bytes.now }
+use crate::decline::SlotDecline;
+use fixed::FixedBytes;
+
+// The bytes, if they are one SEQUENCE of at most 128 bytes that fills them.
+pub(crate) fn sequence_of(bytes: &[u8]) -> Result<FixedBytes<128>, SlotDecline>
+    ensures { result ≡ cond (sequence bytes.now) (Ok bytes.now) (Err NotSequence) }
 {
-    let n = bytes.len();
-    if n < 2 || n > 128 {
-        return false;
+    match bytes {
+        [0x30, count, inside @ ..] if usize::from(*count) == inside.len() => {
+            FixedBytes::try_from(bytes).map_err(|_| SlotDecline::NotSequence)
+        },
+        _ => Err(SlotDecline::NotSequence),
     }
-    bytes[0] == 0x30 && bytes[1] as usize + 2 == n
 }

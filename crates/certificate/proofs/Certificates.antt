@@ -18,13 +18,14 @@ use Rattle.certificate.specs.Placed.{State, octets_at, sequence_at, end_at, ende
 use Rattle.certificate.specs.Fields.{id_at, ianda_at, placed_at, numbers_at, granted, judged, identity_bytes, header_bytes, base_bytes, id_bytes, ianda_bytes, privilege_bytes}
 use Rattle.certificate.specs.Certificates.{Opened, then, opened, filled, closed, certified, id_of, ianda_of, privilege_of, message_of, certificate}
 use Rattle.certificate.specs.Laws.{Fits, IdentityFits, HeaderFits, BaseFits, IdFits, IandaFits, PrivilegeFits, ReadsBack, OneEncoding}
-use Rattle.certificate.proofs.States.{no_ok_here, same_ok, followed_ok, octets_only, sequence_only, end_only, octets_back, sequence_back, number_back, under_inside, length-encode}
+use Rattle.certificate.proofs.Elements.{same_ok}
+use Rattle.certificate.proofs.States.{followed_ok, octets_only, sequence_only, end_only, octets_back, sequence_back, number_back, under_inside, length-encode}
 use Rattle.certificate.proofs.Codecs.{Only, peel, number_codec, header_codec, base_codec, id_codec, ianda_codec}
 
 then_ok : {A B : Type 0} (r : Result A Refusal) (f : A → Result B Refusal) (y : B) → then r f ≡ Ok y → (x : A) × (r ≡ Ok x) × (f x ≡ Ok y)
 unfolding then
 then_ok (Ok x) f y h = (x, refl, h)
-then_ok (Err e) f y h = absurd (no_ok_here h)
+then_ok (Err e) f y h = absurd cc
 
 -- what reads is the encoding
 
@@ -219,8 +220,8 @@ module _ {C : Type 0} (of_number : ℕ → Option C) (number_of : C → ℕ) (ba
   granted_only : (y : Numbers) (r : Option Role) (c : Option C) (x : Privilege C) → role_of y.role.number ≡ r → of_number y.clearance.number ≡ c
       → granted y r c ≡ Ok x → body_bytes y ≡ privilege_bytes number_of x
   unfolding body_bytes numbers_bytes privilege_bytes
-  granted_only y None c x p q h = absurd (no_ok_here h)
-  granted_only y (Some r) None x p q h = absurd (no_ok_here h)
+  granted_only y None c x p q h = absurd cc
+  granted_only y (Some r) None x p q h = absurd cc
   granted_only y (Some r) (Some c) x p q h =
       rw (sym (role_forth y.role.number r p), sym (forth y.clearance.number c q)) (ap (privilege_bytes number_of) (same_ok h))
 

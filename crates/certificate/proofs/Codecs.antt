@@ -12,7 +12,8 @@ use Rattle.certificate.specs.Der.{encode_integer, wrap}
 use Rattle.certificate.specs.Placed.{State, number_at, octets_at, followed}
 use Rattle.certificate.specs.Fields.{identity_at, header_at, base_at, id_at, ianda_at, identity_bytes, header_bytes, base_bytes, id_bytes, ianda_bytes}
 use Rattle.certificate.specs.Laws.{Fits, IdentityFits, HeaderFits, BaseFits, IdFits, IandaFits}
-use Rattle.certificate.proofs.States.{same_ok, followed_ok, number_only, octets_only, number_back, octets_back, under_right}
+use Rattle.certificate.proofs.Elements.{same_ok}
+use Rattle.certificate.proofs.States.{followed_ok, number_only, octets_only, number_back, octets_back, under_right}
 
 -- what is read is what e writes, and bytes follow
 pub record Only {A : Type 0} (p : State → Result (A × State) Refusal) (e : A → List ℕ) : Type 0 where

@@ -1,9 +1,9 @@
 -- The contents of an INTEGER: the fewest bytes of a number, and the number of such bytes.
-use Rattle.std.proofs.Common.{◌≡◌, ℕ, zero, suc, ◌+◌, ◌-◌, ◌*◌, ◌/◌, ◌%◌, ◌^◌, ◌<◌, ◌≤◌, true, false, ◌&&◌, ◌||◌, ltb, leb, List, [], ◌∷◌, ◌++◌, reverse, length, get_or, Some, None, sym, refl, ap, ◌∙◌, subst, inl, inr, le_trans, mul-le-mul_right, mul_assoc, arith}
-use native.Mathlib.Nat.{pow-succ', pow-le-pow_right}
+use Rattle.std.proofs.Common.{◌≡◌, ℕ, zero, suc, ◌+◌, ◌-◌, ◌*◌, ◌/◌, ◌%◌, ◌^◌, ◌<◌, ◌≤◌, true, false, ◌&&◌, ◌||◌, ltb, leb, List, [], ◌∷◌, ◌++◌, reverse, length, get_or, drop, Some, None, sym, refl, ap, ◌∙◌, subst, inl, inr, le_trans, mul-le-mul_right, mul_assoc, arith}
+use native.Mathlib.Nat.{pow-succ'}
 use Rattle.std.specs.Int.Digits.{number_from_digits, number_from_digits_after, AllBelowBase}
 use Rattle.std.proofs.lemmas.Int.Digits.{number_push}
-use Rattle.std.proofs.lemmas.List.{reverse-append, reverse-reverse, length-append}
+use Rattle.std.proofs.lemmas.List.{drop_all, reverse-append, reverse-reverse, length-append}
 use Rattle.std.proofs.lemmas.Bool.{cases_lt, lt-ltb, le-ltb, ltb-true, leb-true, le-leb, and_parts, and_from, or_cases, or_left, or_right, false≢true, cases_Bool, lt-leb}
 use Rattle.certificate.specs.Der.{shortest, content_by, content, value_of, acceptable}
 
@@ -179,21 +179,6 @@ length-content (suc k) n h =
           rw (content_large n g) (simp length-append (omega (arith, length-content k (n / 256) q)))
     ]
 
-pub too_long : (max k : ℕ) (xs : List ℕ) → max < 128 * 256 ^ k → k + 2 ≤ length xs → value_of max xs ≡ None
-unfolding value_of acceptable
-too_long max k [] m l = absurd (omega arith)
-too_long max k (x ∷ []) m l = absurd (omega arith)
-too_long max k (x ∷ y ∷ ys) m l =
-    elim (cases_Bool (shortest (x ∷ y ∷ ys))) [
-      | inr f ↦ rw f
-      | inl t ↦
-          let more : 256 ^ k ≤ 256 ^ length ys = pow-le-pow_right (omega arith) (omega arith) in
-          rw (t, lt-leb (number_from_digits 256 (x ∷ y ∷ ys)) max (omega (arith, shortest_low x y ys t)))
-    ]
-
-pub pow_byte : (i j : ℕ) → i ≤ j → 256 ^ i ≤ 256 ^ j
-pow_byte i j h = pow-le-pow_right (omega arith) h
-
 pub value_good : (max n : ℕ) (xs : List ℕ) → n ≡ number_from_digits 256 xs → n ≤ max → shortest xs ≡ true → Some n ≡ value_of max xs
 unfolding value_of acceptable
 value_good max n xs e h s = rw (s, le-leb (number_from_digits 256 xs) max (omega arith)) (ap Some e)
@@ -207,8 +192,23 @@ pub value_bad : (max : ℕ) (xs : List ℕ) → shortest xs ≡ false → None �
 unfolding value_of acceptable
 value_bad max xs f = rw f
 
-pub length-small : (n : ℕ) → n < 128 → length (content n) ≡ 1
-length-small n h = ap length (content_small n h)
+-- the digits that follow make a number no smaller
+pub after_low : (n : ℕ) (ds : List ℕ) → n ≤ number_from_digits_after 256 n ds
+after_low n [] = omega arith
+after_low n (d ∷ ds) = omega (arith, after_low (n * 256 + d) ds)
 
-pub length-large : (n : ℕ) → 128 ≤ n → length (content n) ≡ length (content (n / 256)) + 1
-length-large n h = ap length (content_large n h) ∙ length-append (content (n / 256)) (n % 256 ∷ [])
+-- nor does one digit that is there
+pub after_more : (n : ℕ) (ds : List ℕ) → 0 < length ds → n * 256 ≤ number_from_digits_after 256 n ds
+after_more n [] h = absurd (omega arith)
+after_more n (d ∷ ds) h = omega (arith, after_low (n * 256 + d) ds)
+
+-- no digit follows the last
+pub after_all : (n i : ℕ) (xs : List ℕ) → number_from_digits_after 256 n (drop i xs) ≡ number_from_digits 256 xs → length xs ≤ i → n ≡ number_from_digits 256 xs
+after_all n i xs e h = rw (drop_all i xs h) at e
+
+-- a number of 32 bits takes five bytes at most, and what is left of it without its last byte four
+pub length_number : (n : ℕ) → n ≤ 4294967295 → length (content n) ≤ 5
+length_number n h = length-content 4 n (omega arith)
+
+pub length_quarter : (n : ℕ) → n < 16777216 → length (content n) ≤ 4
+length_quarter n h = length-content 3 n (omega arith)

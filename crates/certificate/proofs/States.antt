@@ -1,33 +1,27 @@
 -- Readings and what they leave.
 use Rattle.std.proofs.Common.{◌≡◌, ℕ, ◌+◌, ◌-◌, ◌≤◌, eqb, List, [], ◌∷◌, ◌++◌, length, take, Ok, Err, Result, refl, ap, subst, inl, inr, arith}
 use Rattle.std.specs.Int.Digits.{AllBelowBase}
-use Rattle.std.proofs.lemmas.List.{take_at}
+use Rattle.std.proofs.lemmas.List.{take_at, length-append}
 use Rattle.std.proofs.lemmas.Bool.{cases_Bool}
 use Rattle.certificate.specs.declared.fault.Fault.{Fault}
 use Rattle.certificate.specs.declared.fault.Refusal.{Refusal}
 use Rattle.certificate.specs.Der.{element, integer, octets, sized, encode_integer, wrap}
 use Rattle.certificate.specs.Placed.{State, at_offset, placed, number_at, octets_at, inside, sequence_at, ended, end_at, followed}
-use Rattle.certificate.proofs.Elements.{element_wrap, element_only, octets_good, read_back, one_encoding, no_ok}
+use Rattle.certificate.proofs.Elements.{element_wrap, element_only, octets_good, read_back, one_encoding, same_ok}
 use Rattle.certificate.proofs.Contents.{length-content}
 
 -- results with a refusal
-
-pub no_ok_here : {A : Type 0} {e : Refusal} {p : A} → ◌≡◌ {A = Result A Refusal} (Err e) (Ok p) → ⊥
-no_ok_here e = let z : ◌≡◌ {A = ℕ} 0 1 = cc in omega arith
-
-pub same_ok : {A : Type 0} {p q : A} → ◌≡◌ {A = Result A Refusal} (Ok p) (Ok q) → p ≡ q
-same_ok e = cc
 
 pub followed_ok : {A B : Type 0} (r : Result (A × State) Refusal) (f : A → State → Result B Refusal) (y : B) → followed r f ≡ Ok y
     → (p : A × State) × (r ≡ Ok p) × (f p.0 p.1 ≡ Ok y)
 unfolding followed
 followed_ok (Ok p) f y h = (p, refl, h)
-followed_ok (Err e) f y h = absurd (no_ok_here h)
+followed_ok (Err e) f y h = absurd cc
 
 offset_only : {A : Type 0} (r : Result (A × List ℕ) Fault) (s t : State) (x : A) → at_offset r s ≡ Ok (x, t) → r ≡ Ok (x, t.0)
 unfolding at_offset
 offset_only (Ok p) s t x h = ap (λ q. Ok (q.0, q.1.0)) (same_ok h)
-offset_only (Err e) s t x h = absurd (no_ok_here h)
+offset_only (Err e) s t x h = absurd cc
 
 pub placed_only : {A : Type 0} (p : List ℕ → Result (A × List ℕ) Fault) (s t : State) (x : A) → placed p s ≡ Ok (x, t) → p s.0 ≡ Ok (x, t.0)
 unfolding placed
@@ -47,7 +41,7 @@ number_only s t n u h =
 
 sized_only : (r : Result (List ℕ × List ℕ) Fault) (p : List ℕ × List ℕ) → sized r ≡ Ok p → r ≡ Ok p
 unfolding sized
-sized_only (Ok q) p h = elim (cases_Bool (eqb (length q.0) 32)) [ inl e ↦ rw e at h | inr e ↦ absurd (no_ok (rw e at h)) ]
+sized_only (Ok q) p h = elim (cases_Bool (eqb (length q.0) 32)) [ inl e ↦ rw e at h | inr e ↦ absurd (cc (rw e at h)) ]
 sized_only (Err f) p h = h
 
 pub octets_only : (s t : State) (m : List ℕ) → octets_at s ≡ Ok (m, t) → s.0 ≡ wrap 4 m ++ t.0
@@ -57,7 +51,7 @@ octets_only s t m h = (element_only 4 s.0 m t.0 (sized_only (element 4 s.0) (m, 
 inside_only : (r : Result (List ℕ × State) Refusal) (at : ℕ) (i t : State) → inside r at ≡ Ok (i, t) → r ≡ Ok (i.0, t)
 unfolding inside
 inside_only (Ok p) at i t h = ap (λ q. Ok (q.0.0, q.1)) (same_ok h)
-inside_only (Err e) at i t h = absurd (no_ok_here h)
+inside_only (Err e) at i t h = absurd cc
 
 pub sequence_only : (s i t : State) → sequence_at s ≡ Ok (i, t) → s.0 ≡ wrap 0x30 i.0 ++ t.0
 unfolding sequence_at
@@ -70,10 +64,15 @@ unfolding wrap
 sequence_front s i t h =
     rw (sequence_only s i t h) (take_at (0x30 ∷ length i.0 ∷ i.0) t.0 (length i.0 + 2) (omega arith))
 
+-- and all of it is there
+pub sequence_room : (s i t : State) → sequence_at s ≡ Ok (i, t) → length i.0 + 2 ≤ length s.0
+unfolding wrap
+sequence_room s i t h = omega (arith, ap length (sequence_only s i t h), length-append i.0 t.0)
+
 ended_only : (xs : List ℕ) (at : ℕ) (p : Unit {0} × State) → ended xs at ≡ Ok p → xs ≡ []
 unfolding ended
 ended_only [] at p h = refl
-ended_only (x ∷ xs) at p h = absurd (no_ok_here h)
+ended_only (x ∷ xs) at p h = absurd cc
 
 pub end_only : (s : State) (p : Unit {0} × State) → end_at s ≡ Ok p → s.0 ≡ []
 unfolding end_at

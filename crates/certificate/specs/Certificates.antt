@@ -1,5 +1,5 @@
 -- A certificate: an outer SEQUENCE of the body, a SEQUENCE, and the mark, an OCTET STRING of 32 bytes.
-use Rattle.std.specs.Prelude.{◌≡◌, ℕ, List, ◌++◌, length, drop, Ok, Err, Option, Result}
+use Rattle.std.specs.Prelude.{◌≡◌, ℕ, List, ◌++◌, Ok, Err, Option, Result}
 use Rattle.certificate.specs.declared.fault.Refusal.{Refusal}
 use Rattle.certificate.specs.declared.fields.Id.{Id}
 use Rattle.certificate.specs.declared.fields.Ianda.{Ianda}
@@ -85,7 +85,3 @@ message_of body = wrap 0x30 body
 -- the certificate holds the message and the mark
 unfoldable pub certificate : List ℕ → List ℕ → List ℕ
 certificate body mark = wrap 0x30 (message_of body ++ wrap 4 mark)
-
--- bytes at the start of a buffer, whose rest stays; n is how many they are
-abbrev pub Fills : List ℕ → List ℕ → List ℕ → ℕ → Type 0
-Fills bytes before after n = (after ≡ bytes ++ drop (length bytes) before) × (n ≡ length bytes)

@@ -1,7 +1,7 @@
 pub mod Faults
+pub mod Tags
 pub mod Der
 pub mod Placed
-pub mod Written
 pub mod Fields
 pub mod Certificates
 pub mod Envelopes

@@ -2,17 +2,12 @@
 use Rattle.std.specs.Prelude.{◌≡◌, ℕ, ◌+◌, ◌-◌, List, [], ◌∷◌, length, Ok, Err, Result}
 use Rattle.certificate.specs.declared.fault.Fault.{Fault}
 use Rattle.certificate.specs.declared.fault.Refusal.{Refusal}
-use Rattle.certificate.specs.declared.reader.Reader.{Reader}
 use Rattle.certificate.specs.declared.fault.Fault.TheVariants.{LeftOver}
 use Rattle.certificate.specs.Der.{element, integer, octets}
 
--- what is left to read, and its offset
+-- what is left to read, and its offset: a reader stands for these
 abbrev pub State : Type 0
 State = List ℕ × ℕ
-
--- the state of the code's reader
-abbrev pub state : Reader → State
-state r = (r.left.now, r.at)
 
 -- what a reading of a list found, put at an offset: a fault is at the offset of its element
 unfoldable pub at_offset : {A : Type 0} → Result (A × List ℕ) Fault → State → Result (A × State) Refusal

@@ -1,7 +1,7 @@
 // What differs from kind to kind: the fields that the body holds.
 ghost use Rattle.std.specs.Prelude.{Result};
 ghost use Rattle.certificate.specs.declared.fault.Refusal.{Refusal};
-ghost use Rattle.certificate.specs.Placed.{State, Reads, state};
+ghost use Rattle.certificate.specs.Placed.{State, Reads};
 
 use crate::fault::Refusal as Refused;
 use crate::reader::Reader;
@@ -14,5 +14,5 @@ pub(crate) trait Body: Copy {
     ghost fields_at: { State → Result (Self × State) Refusal };
 
     fn fields(r: &mut Reader) -> Result<Self, Refused>
-        ensures { Reads fields_at (state r.old) (state r.new) result };
+        ensures { Reads fields_at r.old r.new result };
 }

@@ -1,31 +1,48 @@
-// Writing certificates: the kinds differ in their fields, and share the rest.
-ghost use Rattle.std.specs.Prelude.{◌≡◌, ℕ, ◌≤◌, List};
-ghost use Rattle.certificate.specs.Certificates.{Fills, message_of, certificate};
-ghost use Rattle.certificate.specs.Written.{written};
+// Reading and writing certificates: the kinds differ in their fields, and share the rest.
+ghost use Rattle.std.specs.Prelude.{◌≡◌, ℕ, ◌≤◌, List, length, Result};
+ghost use Rattle.certificate.specs.declared.fault.Refusal.{Refusal};
+ghost use Rattle.certificate.specs.declared.fields.Header.{Header as Heading};
+ghost use Rattle.certificate.specs.Certificates.{Sealed, Answers, message_of, certificate};
 
+use crate::fault::Refusal as Refused;
+use crate::fields::{Header, Reading};
 use crate::finish::{certificate, message};
-use crate::writer::Writer;
+use fixed::FixedBytes;
 
 pub trait Certificate: Copy {
+    // what bytes say as a certificate of this kind
+    ghost of_bytes: { List ℕ → Result (Sealed Self) Refusal };
+
+    // what the fields begin with
+    ghost header_of: { Self → Heading };
+
     // the bytes of the fields, as the body holds them
     ghost field_bytes: { Self → List ℕ };
 
-    // The fields, written one after another.
-    fn fields(self) -> Writer
-        ensures bytes { written result ≡ field_bytes self }
-        ensures len { result.len ≤ 83 };
+    // What `bytes` say as a certificate of this kind.
+    fn read(bytes: &[u8]) -> Result<Reading<'_, Self>, Refused>
+        ensures { Answers (of_bytes bytes.now) result };
 
-    // Writes the message that a mark is made of into the start of `out`, and answers its length; the rest of `out` stays.
-    fn message(self, out: &mut [u8; 128]) -> usize
-        ensures { Fills (message_of (field_bytes self)) out.old out.new result }
+    // What the fields begin with: who issued the certificate, its serial number, and when it is good.
+    fn header(self) -> Header
+        ensures { result ≡ header_of self };
+
+    // The fields, written one after another.
+    fn fields(self) -> FixedBytes<128>
+        ensures bytes { result ≡ field_bytes self }
+        ensures len { length result ≤ 83 };
+
+    // The message that a mark is made of.
+    fn message(self) -> FixedBytes<128>
+        ensures { result ≡ message_of (field_bytes self) }
     {
-        message(&self.fields(), out)
+        message(self.fields().as_slice())
     }
 
-    // Writes the certificate with this mark into the start of `out`, and answers its length; the rest of `out` stays.
-    fn write(self, mark: [u8; 32], out: &mut [u8; 128]) -> usize
-        ensures { Fills (certificate (field_bytes self) mark) out.old out.new result }
+    // The certificate with this mark.
+    fn write(self, mark: [u8; 32]) -> FixedBytes<128>
+        ensures { result ≡ certificate (field_bytes self) mark }
     {
-        certificate(&self.fields(), &mark, out)
+        certificate(self.fields().as_slice(), &mark)
     }
 }

@@ -1,12 +1,12 @@
-// A certificate without its two headers: the sealed message, what the body holds, what follows the body, and what follows the whole.
-use crate::region::Region;
+// A certificate without its two headers: the sealed message, and readers of what the body holds, what follows the body, and what follows the whole.
+use crate::reader::Reader;
 
 pub mod calls;
 
-#[derive(Clone, Copy)]
+#[derive(Drop)]
 pub(crate) struct Envelope<'a> {
     pub message: &'a [u8],
-    pub body: Region<'a>,
-    pub rest: Region<'a>,
-    pub after: Region<'a>,
+    pub body: Reader<'a>,
+    pub rest: Reader<'a>,
+    pub after: Reader<'a>,
 }

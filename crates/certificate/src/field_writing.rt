@@ -1,55 +1,58 @@
 // Writing the groups of fields.
-ghost use Rattle.std.specs.Prelude.{◌≡◌, ◌+◌, ◌≤◌, ◌++◌};
+ghost use Rattle.std.specs.Prelude.{◌≡◌, ◌+◌, ◌≤◌, ◌++◌, length};
 ghost use Rattle.certificate.specs.Fields.{identity_bytes, header_bytes, base_bytes};
-ghost use Rattle.certificate.specs.Written.{written};
 
 use crate::fields::{Base, Header, Identity};
-use crate::writer::Writer;
+use crate::writing::number;
+use fixed::FixedBytes;
 
-fn identity(w: &mut Writer, x: Identity)
-    requires { w.old.len + 14 ≤ 128 }
-    ensures bytes { written w.new ≡ written w.old ++ identity_bytes x }
-    ensures len { w.new.len ≤ w.old.len + 14 }
+#[tactic(auto, using(std::proofs::lemmas::List::append_assoc), unfolding(crate::specs::Fields::identity_bytes))]
+fn identity(out: &mut FixedBytes<128>, x: Identity)
+    requires { length out.old + 14 ≤ 128 }
+    ensures bytes { out.new ≡ out.old ++ identity_bytes x }
+    ensures len { length out.new ≤ length out.old + 14 }
 {
-    w.number(x.issuer);
-    w.number(x.serial);
+    number(out, x.issuer);
+    number(out, x.serial);
 }
 
-fn header(w: &mut Writer, x: Header)
-    requires { w.old.len + 28 ≤ 128 }
-    ensures bytes { written w.new ≡ written w.old ++ header_bytes x }
-    ensures len { w.new.len ≤ w.old.len + 28 }
+#[tactic(auto, using(std::proofs::lemmas::List::append_assoc), unfolding(crate::specs::Fields::header_bytes))]
+fn header(out: &mut FixedBytes<128>, x: Header)
+    requires { length out.old + 28 ≤ 128 }
+    ensures bytes { out.new ≡ out.old ++ header_bytes x }
+    ensures len { length out.new ≤ length out.old + 28 }
 {
-    identity(w, x.identity);
-    w.number(x.first);
-    w.number(x.last);
+    identity(out, x.identity);
+    number(out, x.first);
+    number(out, x.last);
 }
 
-fn base(w: &mut Writer, x: Base)
-    requires { w.old.len + 21 ≤ 128 }
-    ensures bytes { written w.new ≡ written w.old ++ base_bytes x }
-    ensures len { w.new.len ≤ w.old.len + 21 }
+#[tactic(auto, using(std::proofs::lemmas::List::append_assoc), unfolding(crate::specs::Fields::base_bytes))]
+fn base(out: &mut FixedBytes<128>, x: Base)
+    requires { length out.old + 21 ≤ 128 }
+    ensures bytes { out.new ≡ out.old ++ base_bytes x }
+    ensures len { length out.new ≤ length out.old + 21 }
 {
-    identity(w, x.identity);
-    w.number(x.card);
+    identity(out, x.identity);
+    number(out, x.card);
 }
 
 // A body of the header alone, so far.
-pub(crate) fn headed(x: Header) -> Writer
-    ensures bytes { written result ≡ header_bytes x }
-    ensures len { result.len ≤ 28 }
+pub(crate) fn headed(x: Header) -> FixedBytes<128>
+    ensures bytes { result ≡ header_bytes x }
+    ensures len { length result ≤ 28 }
 {
-    let mut w = Writer::new();
-    header(&mut w, x);
-    w
+    let mut out = FixedBytes::new();
+    header(&mut out, x);
+    out
 }
 
 // A body of the header and the base, so far.
-pub(crate) fn based(x: Header, y: Base) -> Writer
-    ensures bytes { written result ≡ header_bytes x ++ base_bytes y }
-    ensures len { result.len ≤ 49 }
+pub(crate) fn based(x: Header, y: Base) -> FixedBytes<128>
+    ensures bytes { result ≡ header_bytes x ++ base_bytes y }
+    ensures len { length result ≤ 49 }
 {
-    let mut w = headed(x);
-    base(&mut w, y);
-    w
+    let mut out = headed(x);
+    base(&mut out, y);
+    out
 }

@@ -1,38 +1,32 @@
 // From the fields of a body to the sealed message and the certificate.
-ghost use Rattle.std.specs.Prelude.{◌≤◌};
-ghost use Rattle.certificate.specs.Certificates.{message_of, certificate, Fills};
-ghost use Rattle.certificate.specs.Written.{written};
+ghost use Rattle.std.specs.Prelude.{◌≡◌, ◌+◌, ◌≤◌, length};
+ghost use Rattle.certificate.specs.Certificates.{message_of, certificate};
 
-use crate::bytes::put;
-use crate::writer::Writer;
-
-// What was written, at the start of a buffer.
-fn give(w: &Writer, out: &mut [u8; 128]) -> usize
-    ensures { Fills (written w.now) out.old out.new result }
-{
-    put(out, 0, w.bytes());
-    w.bytes().len()
-}
+use crate::tag::Tag;
+use crate::writing::element;
+use fixed::FixedBytes;
 
 // The message: the body with its header.
-pub(crate) fn message(fields: &Writer, out: &mut [u8; 128]) -> usize
-    requires { fields.now.len ≤ 83 }
-    ensures { Fills (message_of (written fields.now)) out.old out.new result }
+#[tactic(auto, unfolding(crate::specs::Certificates::message_of))]
+pub(crate) fn message(fields: &[u8]) -> FixedBytes<128>
+    requires { length fields.now ≤ 83 }
+    ensures bytes { result ≡ message_of fields.now }
+    ensures len { length result ≡ length fields.now + 2 }
 {
-    let mut body = Writer::new();
-    body.element(0x30, fields.bytes());
-    give(&body, out)
+    let mut body = FixedBytes::new();
+    element(&mut body, Tag::Sequence, fields);
+    body
 }
 
 // The certificate: body and mark.
-pub(crate) fn certificate(fields: &Writer, mark: &[u8; 32], out: &mut [u8; 128]) -> usize
-    requires { fields.now.len ≤ 83 }
-    ensures { Fills (certificate (written fields.now) mark.now) out.old out.new result }
+#[tactic(auto, unfolding(crate::specs::Certificates::certificate))]
+pub(crate) fn certificate(fields: &[u8], mark: &[u8; 32]) -> FixedBytes<128>
+    requires { length fields.now ≤ 83 }
+    ensures { result ≡ certificate fields.now mark.now }
 {
-    let mut contents = Writer::new();
-    contents.element(0x30, fields.bytes());
-    contents.element(4, mark);
-    let mut whole = Writer::new();
-    whole.element(0x30, contents.bytes());
-    give(&whole, out)
+    let mut contents = message(fields);
+    element(&mut contents, Tag::OctetString, mark);
+    let mut whole = FixedBytes::new();
+    element(&mut whole, Tag::Sequence, contents.as_slice());
+    whole
 }

@@ -12,18 +12,14 @@ pub(crate) fn judge<C: Clearance>(x: Numbers) -> Result<Privilege<C>, Refusal>
     ensures { result ≡ judged C.Clearance.of_number x }
 {
     let fault = Fault::RoleOrClearance;
-    let Some(role) = Role::of(x.role.number) else {
-        return Err(Refusal {
-            fault,
-            at: x.role.at,
-        });
-    };
-    let Some(clearance) = C::of(x.clearance.number) else {
-        return Err(Refusal {
-            fault,
-            at: x.clearance.at,
-        });
-    };
+    let role = Role::try_from(x.role.number).map_err(|_| Refusal {
+        fault,
+        at: x.role.at,
+    })?;
+    let clearance = C::of(x.clearance.number).ok_or(Refusal {
+        fault,
+        at: x.clearance.at,
+    })?;
     Ok(Privilege {
         header: x.header,
         base: x.base,

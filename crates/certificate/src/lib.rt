@@ -2,8 +2,8 @@
 #![tactic(auto)]
 
 mod body;
-mod bytes;
 mod certificate;
+mod element;
 mod envelope;
 mod fault;
 mod field_reading;
@@ -14,12 +14,12 @@ mod judge;
 mod laws;
 mod numbers;
 mod reader;
-mod region;
+mod tag;
 mod value;
-mod writer;
+mod writing;
 
 pub use certificate::Certificate;
 pub use fault::{Fault, Refusal};
 pub use fields::{Base, Header, Ianda, Id, Identity, Privilege, Reading};
+pub use fixed::FixedBytes;
 pub use laws::certificates_stand;
-pub use writer::Writer;

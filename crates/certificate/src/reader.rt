@@ -1,11 +1,20 @@
 // A reader: what is left of the input, and its offset.
-ghost use Rattle.std.specs.Prelude.{◌+◌, ◌^◌, ◌<◌, length};
+use std::marker::Model;
 
 pub(crate) mod calls;
 
 #[derive(Drop)]
 pub(crate) struct Reader<'a> {
-    pub(crate) left: &'a [u8],
-    pub(crate) at: usize,
-    ghost short: { at + length left.now < 2 ^ 63 },
+    left: &'a [u8],
+    at: usize,
+}
+
+impl<'a> Model for Reader<'a> {
+    ghost use Rattle.std.specs.Prelude.{ℕ, ◌+◌, ◌^◌, ◌<◌, List, length};
+
+    ghost Value = { List ℕ × ℕ };
+
+    ghost view = { λ r. (r.left.now, r.at) };
+
+    ghost invariant = { λ r. r.at + length r.left.now < 2 ^ 63 };
 }

@@ -1,38 +1,44 @@
 // The number that the contents of an INTEGER stand for, and its bytes.
-ghost use Rattle.std.specs.Prelude.{◌≡◌, ◌*◌, ◌<◌, ◌≤◌, length};
+ghost use Rattle.std.specs.Prelude.{◌≡◌};
 ghost use Rattle.certificate.specs.Der.{shortest, value_of, content};
 
-fn is_shortest(c: &[u8]) -> bool
-    ensures { result ≡ shortest c.now }
+use fixed::FixedBytes;
+
+#[tactic(auto, using(crate::proofs::Contents::shortest_none, crate::proofs::Contents::shortest_one, crate::proofs::Contents::shortest_more))]
+fn is_shortest(contents: &[u8]) -> bool
+    ensures { result ≡ shortest contents.now }
 {
-    match c.len() {
-        0 => false,
-        1 => c[0] < 128,
-        _ => (c[0] < 128) & ((c[0] > 0) | (c[1] >= 128)),
+    match contents {
+        [] => false,
+        [first] => *first < 128,
+        [first, second, ..] => *first < 128 && (*first > 0 || *second >= 128),
     }
 }
 
-// The number, if it is at most `max`.
-pub(crate) fn value(c: &[u8], max: u64) -> Option<u64>
-    ensures { result ≡ value_of max c.now }
+// The number, if it fits 32 bits.
+pub(crate) fn value(contents: &[u8]) -> Option<u32>
+    ensures { result ≡ value_of 4294967295 contents.now }
 {
-    if c.len() > 9 {
+    if !is_shortest(contents) {
         return None;
     }
-    let mut n: u128 = 0;
-    for i in 0..c.len() {
-        n = n * 256 + u128::from(c[i]);
+    let mut number: u32 = 0;
+    for byte in contents {
+        number = number.checked_mul(256)? + u32::from(*byte);
     }
-    if n > u128::from(max) {
-        return None;
-    }
-    if is_shortest(c) { Some(n as u64) } else { None }
+    Some(number)
 }
 
-// How many bytes the contents of n take.
-pub(crate) fn size(n: u64) -> usize
-    ensures value { result ≡ length (content n) }
-    ensures small { result ≤ 9 }
+// The contents of n, the highest byte first.
+#[tactic(auto, using(crate::proofs::Contents::content_small, crate::proofs::Contents::content_large, crate::proofs::Contents::length_quarter))]
+pub(crate) fn contents(n: u32) -> FixedBytes<5>
+    ensures { result ≡ content n }
 {
-    if n < 128 { 1 } else { size(n / 256) + 1 }
+    let mut contents = if n < 128 {
+        FixedBytes::new()
+    } else {
+        contents(n / 256)
+    };
+    contents.extend(&[(n % 256) as u8]).unwrap();
+    contents
 }

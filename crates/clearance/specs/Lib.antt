@@ -1,4 +1,3 @@
 pub mod Classes
 pub mod Compartments
 pub mod Order
-pub mod Bits

@@ -1,35 +1,27 @@
 -- The class with compartments keeps the laws of a clearance.
-use Rattle.std.specs.Prelude.{◌≡◌, ℕ, ◌/◌, ◌%◌, ◌<◌, ◌≤◌, true, Some, None, Option, ◌==◌, bit_and, nat_le, refl}
-use Rattle.std.proofs.Common.{sym, ap, subst, ◌∙◌, div-add-mod', arith}
+use Rattle.std.specs.Prelude.{◌≡◌, ℕ, ◌/◌, ◌%◌, ◌<◌, ◌≤◌, true, Some, None, Option, bit_and, refl}
+use Rattle.std.proofs.Common.{sym, rules, ap, subst, ◌∙◌, div-add-mod', arith}
 use Rattle.std.proofs.Math.Bridge.{le_prop}
 use Rattle.std.proofs.Math.Arith.{digits_div, digits_mod}
 use Rattle.std.specs.Int.Bits.{and_self}
-use Rattle.std.proofs.lemmas.Nat.{and_comm}
-use Rattle.std.proofs.lemmas.Bool.{leb-true, leb-false, le-leb, eqb-true, eq-eqb, and_parts, and_from, cond_both}
+use Rattle.std.proofs.lemmas.Nat.{and_assoc, and_comm}
+use Rattle.std.proofs.lemmas.Bool.Decides.{nat_tests}
 use Rattle.clearance.specs.declared.class.Class.{Class}
-use Rattle.clearance.specs.declared.class.Class.TheVariants.{Unmarked, Unclassified, Restricted, Confidential, Secret, TopSecret}
 use Rattle.clearance.specs.declared.compartments.Compartments.{Compartments}
-use Rattle.clearance.specs.Classes.{class_number, class_of, class_covers, class_meet}
+use Rattle.clearance.specs.Classes.{class_number, class_of, class_meet}
 use Rattle.clearance.specs.Compartments.{compartments_number, compartments_from, compartments_of, compartments_covers, compartments_meet}
-use Rattle.clearance.specs.Bits.{and_assoc}
 
 -- ---- the class
 
 pub class_back : (x : Class) → class_of (class_number x) ≡ Some x
-class_back Unmarked = refl
-class_back Unclassified = refl
-class_back Restricted = refl
-class_back Confidential = refl
-class_back Secret = refl
-class_back TopSecret = refl
+class_back x = search rules
 
 pub class_forth : (n : ℕ) (x : Class) → class_of n ≡ Some x → class_number x ≡ n
 class_forth n x e = grind arith
 
 -- a class is known by its number
 pub class_same : (x y : Class) → class_number x ≡ class_number y → x ≡ y
-class_same x y e =
-    let s : Some x ≡ Some y = sym (class_back x) ∙ ap class_of e ∙ class_back y in grind arith
+class_same x y e = search rules
 
 -- ---- the class with compartments
 
@@ -74,12 +66,10 @@ abbrev Above : Compartments → Compartments → Type 0
 Above x y = (class_number y.class ≤ class_number x.class) × (bit_and x.bits y.bits ≡ y.bits)
 
 pub above : (x y : Compartments) → compartments_covers x y ≡ true → Above x y
-above x y e =
-    let p = and_parts (class_covers x.class y.class) (bit_and x.bits y.bits == y.bits) e in
-    (leb-true (class_number y.class) (class_number x.class) p.0, eqb-true (bit_and x.bits y.bits) y.bits p.1)
+above x y e = (grind (arith, nat_tests), grind (arith, nat_tests))
 
 pub covers_from : (x y : Compartments) → Above x y → compartments_covers x y ≡ true
-covers_from x y a = and_from (class_covers x.class y.class) (bit_and x.bits y.bits == y.bits) (le-leb (class_number y.class) (class_number x.class) a.0) (eq-eqb (bit_and x.bits y.bits) y.bits a.1)
+covers_from x y a = grind (arith, nat_tests)
 
 pub compartments_reflexive : (x : Compartments) → compartments_covers x x ≡ true
 compartments_reflexive x = covers_from x x (omega arith, and_self x.bits)
@@ -94,23 +84,20 @@ pub compartments_transitive : (x y z : Compartments) → compartments_covers x y
 compartments_transitive x y z p q =
     let a = above x y p in
     let b = above y z q in
-    covers_from x z (omega arith, ap (bit_and x.bits) (sym b.1) ∙ sym (and_assoc x.bits y.bits z.bits) ∙ ap (λ n. bit_and n z.bits) a.1 ∙ b.1)
+    covers_from x z (omega arith, ap (bit_and x.bits) (sym b.1) ∙ sym (and_assoc z.bits x.bits y.bits) ∙ ap (λ n. bit_and n z.bits) a.1 ∙ b.1)
 
 -- the meet of two classes is no higher than either
 lower : (x y : Class) → (class_number (class_meet x y) ≤ class_number x) × (class_number (class_meet x y) ≤ class_number y)
-lower x y = (
-  cond_both (nat_le (class_number x) (class_number y)) x y (λ m. class_number m ≤ class_number x) (λ e. omega arith) (λ e. omega (arith, leb-false (class_number x) (class_number y) e)),
-  cond_both (nat_le (class_number x) (class_number y)) x y (λ m. class_number m ≤ class_number y) (λ e. leb-true (class_number x) (class_number y) e) (λ e. omega arith),
-)
+lower x y = (grind (arith, nat_tests), grind (arith, nat_tests))
 
 pub compartments_left : (x y : Compartments) → compartments_covers x (compartments_meet x y) ≡ true
-compartments_left x y = covers_from x (compartments_meet x y) ((lower x.class y.class).0, sym (and_assoc x.bits x.bits y.bits) ∙ ap (λ n. bit_and n y.bits) (and_self x.bits))
+compartments_left x y = covers_from x (compartments_meet x y) ((lower x.class y.class).0, sym (and_assoc y.bits x.bits x.bits) ∙ ap (λ n. bit_and n y.bits) (and_self x.bits))
 
 pub compartments_right : (x y : Compartments) → compartments_covers y (compartments_meet x y) ≡ true
 compartments_right x y =
     covers_from y (compartments_meet x y) (
       (lower x.class y.class).1,
-      and_comm y.bits (bit_and x.bits y.bits) ∙ and_assoc x.bits y.bits y.bits ∙ ap (bit_and x.bits) (and_self y.bits),
+      and_comm y.bits (bit_and x.bits y.bits) ∙ and_assoc y.bits x.bits y.bits ∙ ap (bit_and x.bits) (and_self y.bits),
     )
 
 pub compartments_greatest : (x y z : Compartments) → compartments_covers x z ≡ true → compartments_covers y z ≡ true → compartments_covers (compartments_meet x y) z ≡ true
@@ -118,6 +105,6 @@ compartments_greatest x y z p q =
     let a = above x z p in
     let b = above y z q in
     covers_from (compartments_meet x y) z (
-      cond_both (nat_le (class_number x.class) (class_number y.class)) x.class y.class (λ m. class_number z.class ≤ class_number m) (λ _. a.0) (λ _. b.0),
-      and_assoc x.bits y.bits z.bits ∙ ap (bit_and x.bits) b.1 ∙ a.1,
+      grind (arith, nat_tests),
+      and_assoc z.bits x.bits y.bits ∙ ap (bit_and x.bits) b.1 ∙ a.1,
     )

@@ -15,6 +15,8 @@ pub trait Clearance: Copy {
     // The greatest clearance that both cover.
     ghost meet: { Self → Self → Self };
 
+    // The two conversions are the trait's own: `TryFrom<u32>` and `Into<u32>` promise what each kind's own impl says, so that each kind would
+    // write two impls more, and prove two laws more that tie them to the two members above.
     fn of(number: u32) -> Option<Self>
         ensures { result ≡ of_number number };
 

@@ -5,7 +5,7 @@ use crate::class::Class;
 pub mod kind;
 
 // A class, and a bit for each of 16 compartments.
-#[derive(Clone, Copy)]
+#[derive(Clone, Copy, Debug, PartialEq, Eq)]
 pub struct Compartments {
     class: Class,
     bits: u16,

@@ -1,5 +1,3 @@
 pub mod Splits
 pub mod Digits
-pub mod Named
-pub mod Readings
-pub mod Says
+pub mod Choices

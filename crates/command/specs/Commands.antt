@@ -1,17 +1,22 @@
 -- What a line says.
 use Rattle.std.specs.Prelude.{ℕ, Bool, true, false, cond, List, [], ◌∷◌, Some, None, codes, Option, ◌==◌}
+use Rattle.std.specs.Option.{option_and_then}
 use Rattle.std.specs.Str.{bytes_eq}
 use Rattle.certificate.specs.declared.fields.Identity.{Identity}
 use Rattle.certificate.specs.declared.fields.Header.{Header}
 use Rattle.certificate.specs.declared.fields.Base.{Base}
 use Rattle.certificate.specs.declared.fields.Id.{Id as IdFields}
 use Rattle.certificate.specs.declared.fields.Ianda.{Ianda as IandaFields}
-use Rattle.command.specs.declared.keys.Key.{Key as SealKey}
+use Rattle.seal.specs.declared.key.Key.{Key as SealKey}
 use Rattle.command.specs.declared.command.Grant.{Grant}
 use Rattle.command.specs.declared.command.Kind.{Kind}
 use Rattle.command.specs.declared.command.Kind.TheVariants.{Class, Compartments}
 use Rattle.card.specs.declared.part.Part.{Part}
 use Rattle.card.specs.declared.part.Part.TheVariants as place
+use Rattle.command.specs.declared.command.options.Scheme.{Scheme}
+use Rattle.command.specs.declared.command.options.Scheme.TheVariants.{Hmac}
+use Rattle.command.specs.declared.command.options.Verb.{Verb}
+use Rattle.command.specs.declared.command.options.Verb.TheVariants as verb
 use Rattle.command.specs.declared.command.Command.{Command}
 use Rattle.command.specs.declared.command.Command.TheVariants as command
 use Rattle.command.specs.Words.{words, number_of, unhex}
@@ -42,21 +47,21 @@ said (command.Grant l p f) = grant l.now p f
 said (command.Ianda l f) = ianda l.now f
 said (command.Show l) = shown l.now
 
--- the first row whose word this is
-unfoldable pub chosen : {A : Type 0} → List ℕ → List (List ℕ × Option A) → Option A
+-- what the first row says whose word this is
+abbrev pub chosen : {A : Type 0} → List ℕ → List (List ℕ × A) → Option A
 chosen w [] = None
-chosen w (row ∷ rows) = cond (bytes_eq w row.0) row.1 (chosen w rows)
+chosen w (row ∷ rows) = cond (bytes_eq w row.0) (Some row.1) (chosen w rows)
 
 -- `class` or `compartments`
 unfoldable pub kind_of : List ℕ → Option Kind
-kind_of w = chosen w ((codes "class", Some Class) ∷ (codes "compartments", Some Compartments) ∷ [])
+kind_of w = chosen w ((codes "class", Class) ∷ (codes "compartments", Compartments) ∷ [])
 
 -- `writable` or `fixed`
 unfoldable pub writable_of : List ℕ → Option Bool
-writable_of w = chosen w ((codes "writable", Some true) ∷ (codes "fixed", Some false) ∷ [])
+writable_of w = chosen w ((codes "writable", true) ∷ (codes "fixed", false) ∷ [])
 
 -- the part of a card that has a number, 1 to 4
-unfoldable pub place_at : Option ℕ → Option Part
+abbrev pub place_at : Option ℕ → Option Part
 place_at None = None
 place_at (Some n) =
     cond (n == 1) (Some place.Id) (
@@ -69,18 +74,32 @@ unfoldable pub place_of : List ℕ → Option Part
 place_of w = place_at (number_of w)
 
 -- the word `hmac`
-unfoldable pub hmac_of : List ℕ → Option (Unit {0})
-hmac_of w = chosen w ((codes "hmac", Some tt) ∷ [])
+unfoldable pub scheme_of : List ℕ → Option Scheme
+scheme_of w = chosen w ((codes "hmac", Hmac) ∷ [])
+
+-- what a line asks for, by its first word
+unfoldable pub verb_of : List ℕ → Option Verb
+verb_of w =
+    chosen w (
+    (codes "clearance", verb.Clearance) ∷
+    (codes "seal", verb.Seal) ∷
+    (codes "card", verb.Card) ∷
+    (codes "part", verb.Part) ∷
+    (codes "id", verb.Id) ∷
+    (codes "privilege", verb.Privilege) ∷
+    (codes "ianda", verb.Ianda) ∷
+    (codes "authorisation", verb.Authorisation) ∷
+    (codes "show", verb.Show) ∷ [])
 
 -- ISSUER SERIAL
-unfoldable pub next_identity : Rest → Option (Identity × Rest)
+abbrev pub next_identity : Rest → Option (Identity × Rest)
 next_identity ws =
     followed (next_number ws) (λ issuer ws1.
     followed (next_number ws1) (λ serial ws2.
     Some (record { issuer = issuer; serial = serial }, ws2)))
 
 -- ISSUER SERIAL FIRST LAST
-unfoldable pub next_header : Rest → Option (Header × Rest)
+abbrev pub next_header : Rest → Option (Header × Rest)
 next_header ws =
     followed (next_identity ws) (λ identity ws1.
     followed (next_number ws1) (λ first ws2.
@@ -88,14 +107,14 @@ next_header ws =
     Some (record { identity = identity; first = first; last = last }, ws3))))
 
 -- BASEISSUER BASESERIAL CARD
-unfoldable pub next_base : Rest → Option (Base × Rest)
+abbrev pub next_base : Rest → Option (Base × Rest)
 next_base ws =
     followed (next_identity ws) (λ identity ws1.
     followed (next_number ws1) (λ card ws2.
     Some (record { identity = identity; card = card }, ws2)))
 
 -- ISSUER SERIAL FIRST LAST BASEISSUER BASESERIAL CARD ROLE CLEARANCE
-unfoldable pub next_grant : Rest → Option (Grant × Rest)
+abbrev pub next_grant : Rest → Option (Grant × Rest)
 next_grant ws =
     followed (next_header ws) (λ header ws1.
     followed (next_base ws1) (λ base ws2.
@@ -104,20 +123,20 @@ next_grant ws =
     Some (record { header = header; base = base; role = role; clearance = clearance }, ws4)))))
 
 -- clearance class | compartments
-unfoldable pub clearance_command : Rest → Option Line
+abbrev pub clearance_command : Rest → Option Line
 clearance_command ws =
     followed (word_by kind_of ws) (λ kind ws1.
     finished ws1 (clearance kind))
 
 -- seal hmac NAME:KEYHEX ...
-unfoldable pub seal_command : Rest → Option Line
+abbrev pub seal_command : Rest → Option Line
 seal_command ws =
-    followed (word_by hmac_of ws) (λ _ ws1.
+    followed (word_by scheme_of ws) (λ _ ws1.
     followed (next_word ws1) (λ _ _.
     cond (all_keys ws1) (Some (seal (keys_in ws1))) None))
 
 -- card LABEL NUMBER writable | fixed
-unfoldable pub card_command : Rest → Option Line
+abbrev pub card_command : Rest → Option Line
 card_command ws =
     followed (next_label ws) (λ label ws1.
     followed (next_number ws1) (λ number ws2.
@@ -125,7 +144,7 @@ card_command ws =
     finished ws3 (card label number writable))))
 
 -- part LABEL K HEX
-unfoldable pub part_command : Rest → Option Line
+abbrev pub part_command : Rest → Option Line
 part_command ws =
     followed (next_label ws) (λ label ws1.
     followed (word_by place_of ws1) (λ place ws2.
@@ -133,7 +152,7 @@ part_command ws =
     finished ws3 (part label place (unhex hex)))))
 
 -- id LABEL ISSUER SERIAL FIRST LAST SUBJECT
-unfoldable pub id_command : Rest → Option Line
+abbrev pub id_command : Rest → Option Line
 id_command ws =
     followed (next_label ws) (λ label ws1.
     followed (next_header ws1) (λ header ws2.
@@ -141,14 +160,14 @@ id_command ws =
     finished ws3 (id label (record { header = header; subject = subject })))))
 
 -- privilege LABEL, or authorisation LABEL, and the fields of a grant
-unfoldable pub grant_command : Part → Rest → Option Line
+abbrev pub grant_command : Part → Rest → Option Line
 grant_command place ws =
     followed (next_label ws) (λ label ws1.
     followed (next_grant ws1) (λ fields ws2.
     finished ws2 (grant label place fields)))
 
 -- ianda LABEL ISSUER SERIAL FIRST LAST BASEISSUER BASESERIAL CARD TEMPLATEHEX
-unfoldable pub ianda_command : Rest → Option Line
+abbrev pub ianda_command : Rest → Option Line
 ianda_command ws =
     followed (next_label ws) (λ label ws1.
     followed (next_header ws1) (λ header ws2.
@@ -157,35 +176,37 @@ ianda_command ws =
     finished ws4 (ianda label (record { header = header; base = base; template = template }))))))
 
 -- show LABEL
-unfoldable pub show_command : Rest → Option Line
+abbrev pub show_command : Rest → Option Line
 show_command ws =
     followed (next_label ws) (λ label ws1.
     finished ws1 (shown label))
 
+-- the words after the first, by what it asks for
+abbrev pub asked : Verb → Rest → Option Line
+asked verb.Clearance ws = clearance_command ws
+asked verb.Seal ws = seal_command ws
+asked verb.Card ws = card_command ws
+asked verb.Part ws = part_command ws
+asked verb.Id ws = id_command ws
+asked verb.Privilege ws = grant_command place.Privilege ws
+asked verb.Ianda ws = ianda_command ws
+asked verb.Authorisation ws = grant_command place.Authorisation ws
+asked verb.Show ws = show_command ws
+
 -- the words after the first, by that one
-unfoldable pub command_named : List ℕ → Rest → Option Line
-command_named name ws =
-    chosen name (
-    (codes "clearance", clearance_command ws) ∷
-    (codes "seal", seal_command ws) ∷
-    (codes "card", card_command ws) ∷
-    (codes "part", part_command ws) ∷
-    (codes "id", id_command ws) ∷
-    (codes "privilege", grant_command place.Privilege ws) ∷
-    (codes "ianda", ianda_command ws) ∷
-    (codes "authorisation", grant_command place.Authorisation ws) ∷
-    (codes "show", show_command ws) ∷ [])
+abbrev pub command_named : List ℕ → Rest → Option Line
+command_named name ws = option_and_then (λ v. asked v ws) (verb_of name)
 
 -- a word that starts with `#`
-unfoldable pub is_remark : List ℕ → Bool
+abbrev pub is_remark : List ℕ → Bool
 is_remark [] = false
 is_remark (b ∷ w) = b == 35
 
 -- no word or a remark does nothing
-unfoldable pub words_say : Rest → Option Line
+abbrev pub words_say : Rest → Option Line
 words_say [] = Some nothing
 words_say (w ∷ ws) = cond (is_remark w) (Some nothing) (command_named w ws)
 
 -- what a line says; None where it is not understood
-unfoldable pub line_of : List ℕ → Option Line
+abbrev pub line_of : List ℕ → Option Line
 line_of line = words_say (words line)

@@ -13,7 +13,7 @@ pub enum Kind {
     Compartments,
 }
 
-// The fields of a privilege or authorisation certificate, role and clearance as the numbers that were written.
+// The fields of a privilege or authorisation certificate, role and clearance as the numbers that were written: a script may write what no reader takes.
 #[derive(Clone, Copy)]
 pub struct Grant {
     pub header: Header,

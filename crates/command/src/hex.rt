@@ -1,11 +1,14 @@
 // Bytes as hex digits.
-ghost use Rattle.std.specs.Prelude.{◌≡◌, ◌/◌, ◌<◌, ◌≤◌, ◌++◌, length, drop, IfOk};
-ghost use Rattle.command.specs.Words.{all, hex_digit, is_hex, nibble, unhex, is_hex_text, bytes32_of};
+ghost use Rattle.std.specs.Prelude.{◌≡◌, ◌<◌, IfOk};
+ghost use Rattle.std.specs.List.{list_all};
+ghost use Rattle.command.specs.Words.{hex_digit, is_hex, nibble, byte_of, unhex, is_hex_text, bytes32_of};
 
+use crate::words::FromWord;
 use std::alloc::{AllocError, Global};
 
 // What a hex digit of either case stands for.
-pub(crate) fn digit(b: u8) -> Option<u8>
+#[tactic(auto, unfolding(crate::specs::Words::hex_digit))]
+fn digit(b: u8) -> Option<u8>
     ensures { result ≡ hex_digit b }
 {
     match b {
@@ -17,6 +20,7 @@ pub(crate) fn digit(b: u8) -> Option<u8>
 }
 
 // What a digit stands for; any other byte counts as 0.
+#[tactic(auto, unfolding(crate::specs::Words::hex_digit, crate::specs::Words::nibble))]
 fn nibble_of(b: u8) -> u8
     ensures value { result ≡ nibble b }
     ensures small { result < 16 }
@@ -24,58 +28,46 @@ fn nibble_of(b: u8) -> u8
     digit(b).unwrap_or(0)
 }
 
-// Whether every byte is a hex digit.
-pub(crate) fn all_hex(word: &[u8]) -> bool
-    ensures { result ≡ all is_hex word.now }
+// The byte that two digits stand for.
+fn byte_of(pair: [u8; 2]) -> u8
+    ensures { result ≡ byte_of pair }
 {
-    for b in word {
-        if !digit(*b).is_some() {
-            return false;
-        }
-    }
-    true
+    16 * nibble_of(pair[0]) + nibble_of(pair[1])
+}
+
+// Whether every byte is a hex digit.
+fn all_hex(word: &[u8]) -> bool
+    ensures { result ≡ list_all is_hex word.now }
+{
+    word.iter().all(|b| digit(*b).is_some())
 }
 
 // Whether a word is hex: an even number of digits, at least two.
 pub(crate) fn is_hex(word: &[u8]) -> bool
     ensures { result ≡ is_hex_text word.now }
 {
-    let digits = all_hex(word);
-    (2 <= word.len()) & ((word.len() % 2 == 0) & digits)
-}
-
-// Writes the bytes that the hex digits stand for to the start of `out`.
-pub(crate) fn fill(out: &mut [u8], hex: &[u8])
-    requires { length hex.now / 2 ≤ length out.old }
-    ensures { out.new ≡ unhex hex.now ++ drop (length hex.now / 2) out.old }
-{
-    for i in 0..hex.len() / 2 {
-        out[i] = 16 * nibble_of(hex[2 * i]) + nibble_of(hex[2 * i + 1]);
-    }
+    word.len() >= 2 && word.len() % 2 == 0 && all_hex(word)
 }
 
 // The bytes that hex digits stand for, two digits to a byte; a digit left over stands for nothing.
 pub fn bytes_of(heap: Global, hex: &[u8]) -> Result<Vec<u8>, AllocError>
     ensures { IfOk result (λ v. v.items ≡ unhex hex.now) }
 {
-    let mut bytes = Vec::new(heap);
-    for i in 0..hex.len() / 2 {
-        bytes.push(16 * nibble_of(hex[2 * i]) + nibble_of(hex[2 * i + 1]))?;
-    }
-    Ok(bytes)
+    let (pairs, _) = hex.as_chunks::<2>();
+    pairs.iter().copied().map(byte_of).collect(heap)
 }
 
-// The 32 bytes that a word of 64 hex digits stands for.
-pub(crate) fn bytes32_of(word: &[u8]) -> Option<[u8; 32]>
-    ensures { result ≡ bytes32_of word.now }
-{
-    if word.len() != 64 {
-        return None;
+impl FromWord for [u8; 32] {
+    ghost meaning = { bytes32_of };
+
+    // 64 hex digits.
+    #[tactic(auto, unfolding(crate::specs::Words::bytes32_of))]
+    fn from_word(word: &[u8]) -> Option<[u8; 32]> {
+        if word.len() != 64 || !all_hex(word) {
+            return None;
+        }
+        let (pairs, _) = word.as_chunks::<2>();
+        let pairs = pairs.first_chunk::<32>()?;
+        Some(pairs.map(byte_of))
     }
-    if !all_hex(word) {
-        return None;
-    }
-    let mut bytes = [0; 32];
-    fill(&mut bytes, word);
-    Some(bytes)
 }

@@ -10,5 +10,5 @@ mod words;
 pub use card::Part;
 pub use command::{Command, Grant, Kind};
 pub use hex::bytes_of;
-pub use keys::Key;
-pub use keys::calls::keys_of;
+pub use keys::keys_of;
+pub use seal::Key;

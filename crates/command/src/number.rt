@@ -1,35 +1,26 @@
 // Numbers as decimal digits.
 ghost use Rattle.std.specs.Prelude.{◌≡◌};
-ghost use Rattle.command.specs.Words.{is_digit, number_of};
+ghost use Rattle.command.specs.Words.{number_of};
 
-// The largest number that a word can stand for.
-const LARGEST: u64 = 4294967295;
+use crate::words::FromWord;
 
-fn is_digit(b: u8) -> bool
-    ensures { result ≡ is_digit b }
-{
-    (b'0' <= b) & (b <= b'9')
-}
+impl FromWord for u32 {
+    ghost meaning = { number_of };
 
-// The number that a word stands for, if it is one.
-pub(crate) fn decimal(word: &[u8]) -> Option<u32>
-    ensures { result ≡ number_of word.now }
-{
-    if word.len() == 0 {
-        return None;
-    }
-    if word.len() > 10 {
-        return None;
-    }
-    let mut n: u64 = 0;
-    for b in word {
-        if !is_digit(*b) {
+    // One to ten decimal digits, whose number fits.
+    #[tactic(auto, unfolding(crate::specs::Words::number_of, crate::specs::Words::is_number, crate::specs::Words::decimal_of))]
+    fn from_word(word: &[u8]) -> Option<u32> {
+        if word.is_empty() || word.len() > 10 {
             return None;
         }
-        n = n * 10 + (*b - b'0') as u64;
+        // A loop: in a `fold` the sum gets no bound.
+        let mut n: u64 = 0;
+        for b in word {
+            if !b.is_ascii_digit() {
+                return None;
+            }
+            n = n * 10 + u64::from(*b - b'0');
+        }
+        u32::try_from(n).ok()
     }
-    if n > LARGEST {
-        return None;
-    }
-    Some(n as u32)
 }

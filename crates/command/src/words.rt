@@ -1,8 +1,21 @@
 // The words of a line, read one after another.
-pub(crate) mod calls;
+mod calls;
+mod from_word;
 
-// What is left of the line.
+pub(crate) use from_word::FromWord;
+use std::marker::Model;
+
+// What is left of a line; a contract sees the words that are left.
 #[derive(Drop)]
 pub(crate) struct Words<'a> {
-    pub(crate) left: &'a [u8],
+    left: &'a [u8],
+}
+
+impl<'a> Model for Words<'a> {
+    ghost use Rattle.command.specs.Words.{words};
+    ghost use Rattle.command.specs.Reading.{Rest};
+
+    ghost Value = { Rest };
+
+    ghost view = { λ w. words w.left.now };
 }

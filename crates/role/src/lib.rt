@@ -3,4 +3,4 @@
 
 mod role;
 
-pub use role::Role;
+pub use role::{NoRole, Role};

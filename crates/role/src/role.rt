@@ -1,11 +1,15 @@
-// What the holder of a privilege or an authorisation certificate may do.
+// What the holder of a privilege or an authorisation certificate may do, and the number of each role.
 
 pub mod calls;
 
-#[derive(Clone, Copy)]
+#[derive(Clone, Copy, Debug, PartialEq, Eq)]
 pub enum Role {
-    UserOnly,
-    Guard,
-    SecurityOfficer,
-    AuditManager,
+    UserOnly = 0,
+    Guard = 1,
+    SecurityOfficer = 2,
+    AuditManager = 3,
 }
+
+// A number that no role has.
+#[derive(Clone, Copy, Debug, PartialEq, Eq)]
+pub struct NoRole;

@@ -1,6 +1,2 @@
-pub mod Lookups
-pub mod Buffers
-pub mod Tables
-pub mod Steps
-pub mod Answered
-pub mod Splits
+pub mod Places
+pub mod Lines

@@ -1,6 +1,7 @@
 pub mod Marks
+pub mod Labels
 pub mod Cards
-pub mod Places
+pub mod State
 pub mod Issues
 pub mod Views
 pub mod Sessions

@@ -1,14 +1,20 @@
 // A card of a script.
+use card::CardRecord;
+use std::marker::Model;
+
 pub(crate) mod calls;
 
-// Its label, its number, whether part 4 can be written, and its four parts.
+// A card, and the label that lines name it by.
 #[derive(Drop)]
-pub(crate) struct Card {
+pub(crate) struct LabelledCard {
     pub(crate) label: Vec<u8>,
-    pub(crate) number: u32,
-    pub(crate) writable: bool,
-    pub(crate) id: Vec<u8>,
-    pub(crate) privilege: Vec<u8>,
-    pub(crate) ianda: Vec<u8>,
-    pub(crate) authorisation: Vec<u8>,
+    pub(crate) card: CardRecord,
+}
+
+impl Model for LabelledCard {
+    ghost use Rattle.script.specs.Labels.{Labelled};
+
+    ghost Value = { Labelled };
+
+    ghost view = { λ a. record { label = a.label.items; card = a.card } };
 }

@@ -6,7 +6,7 @@ mod issue;
 mod marks;
 mod replay;
 mod session;
-mod table;
-mod view;
+mod stop;
+mod told;
 
 pub use replay::replay_all;

@@ -1,40 +1,26 @@
 // A whole script.
-ghost use Rattle.std.specs.Prelude.{◌≡◌, ◌+◌, ◌≤◌, length, take, drop, IfOk};
-ghost use Rattle.std.specs.List.{prefix_len};
-ghost use Rattle.script.specs.Replays.{not_newline, replayed};
+ghost use Rattle.std.specs.Prelude.{◌≡◌, position, IfOk};
+ghost use Rattle.std.specs.List.{before_first, after_first};
+ghost use Rattle.script.specs.Replays.{is_newline, replayed};
 
 use crate::session::Session;
 use std::alloc::{AllocError, Global};
 
-// How many bytes stand before the first newline.
-fn line_end(text: &[u8]) -> usize
-    ensures count { result ≡ prefix_len not_newline text.now }
-    ensures within { result ≤ length text.now }
+// Where the first newline stands.
+fn newline(text: &[u8]) -> Option<usize>
+    ensures { result ≡ position is_newline text.now }
 {
-    for i in 0..text.len() {
-        if text[i] == b'\n' {
-            return i;
-        }
-    }
-    text.len()
+    text.iter().position(|byte| *byte == b'\n')
 }
 
-// What stands before the place `end`.
-fn before(text: &[u8], end: usize) -> &[u8]
-    requires { end ≤ length text.now }
-    ensures { result.now ≡ take end text.now }
+// The first line, without its newline, and what stands behind that.
+fn first_line(text: &[u8]) -> (&[u8], &[u8])
+    ensures line { result.0.now ≡ before_first is_newline text.now }
+    ensures rest { result.1.now ≡ after_first is_newline text.now }
 {
-    &text[0..end]
-}
-
-// What stands after the newline at `end`, or nothing.
-fn after(text: &[u8], end: usize) -> &[u8]
-    ensures { result.now ≡ drop (end + 1) text.now }
-{
-    if end < text.len() {
-        &text[end + 1..text.len()]
-    } else {
-        &text[0..0]
+    match newline(text) {
+        Some(end) => (&text[..end], &text[end + 1..]),
+        None => (text, &[]),
     }
 }
 
@@ -46,11 +32,11 @@ pub fn replay_all(heap: Global, text: &[u8]) -> Result<Vec<u8>, AllocError>
     let mut out = Vec::new(heap);
     let mut rest = text;
     let mut n = 0;
-    while rest.len() > 0 {
-        let end = line_end(rest);
+    while !rest.is_empty() {
+        let (line, after) = first_line(rest);
         n += 1;
-        session.line(n, before(rest, end), &mut out)?;
-        rest = after(rest, end);
+        session.line(n, line, &mut out)?;
+        rest = after;
     }
     Ok(out)
 }

@@ -1,14 +1,25 @@
 // What a script has led to so far.
-use crate::cards::Card;
-use command::{Key, Kind};
+use crate::cards::LabelledCard;
+use command::Kind;
+use seal::Key;
+use std::marker::Model;
 
 pub(crate) mod calls;
 pub(crate) mod lines;
+pub(crate) mod view;
 
 // The clearance kind, if one was chosen; the keys of the latest seal, none before the first; and the cards, in the order of their making.
 #[derive(Drop)]
 pub(crate) struct Session {
     pub(crate) kind: Option<Kind>,
     pub(crate) keys: Vec<Key>,
-    pub(crate) cards: Vec<Card>,
+    pub(crate) cards: Vec<LabelledCard>,
+}
+
+impl Model for Session {
+    ghost use Rattle.script.specs.State.{State};
+
+    ghost Value = { State };
+
+    ghost view = { λ a. record { kind = a.kind; keys = a.keys.items; cards = a.cards.items } };
 }

@@ -1,3 +1,1 @@
-pub mod Lookups
-pub mod Keyed
 pub mod Lists

@@ -1,8 +1,9 @@
 -- Pairs in a list, and one more.
-use Rattle.std.proofs.Common.{◌≡◌, ℕ, ◌+◌, ◌-◌, ◌<◌, ◌≤◌, Bool, true, false, ◌&&◌, ◌||◌, List, [], ◌∷◌, ◌++◌, length, get_or, drop, Some, sym, refl, ap, ◌∙◌, ⊎_elim, arith, length-append}
+use Rattle.std.proofs.Common.{◌≡◌, ℕ, ◌+◌, ◌-◌, ◌<◌, true, false, ◌&&◌, ◌||◌, List, [], ◌∷◌, ◌++◌, length, Some, sym, refl, ap, ◌∙◌, ⊎_elim, arith, length-append}
 use Rattle.std.specs.Str.{bytes_eq}
+use Rattle.std.proofs.Math.Bool.{or-false}
+use Rattle.std.proofs.lemmas.List.Folds.{list_any-append}
 use Rattle.std.proofs.lemmas.Slice.Eq.{bytes_eq-Decides}
-use Rattle.std.proofs.lemmas.List.{drop_more, drop_all}
 use Rattle.std.proofs.lemmas.Bool.{eq-eqb, eqb-true, le-leb, and_parts, and_from, or_left, or_right, cases_Bool}
 use Rattle.sha256.specs.Hash.{sha256}
 use Rattle.seal.specs.declared.pair.Pair.{Pair}
@@ -10,32 +11,9 @@ use Rattle.seal.specs.Pairs.{is_pair, listed}
 use Rattle.seal.specs.Listed.{listed_by}
 use Rattle.seal.specs.Seals.{Made}
 
--- what a read past the end would give
-abbrev pub no_pair : Pair
-no_pair = record { issuer = 0; digest = [] }
-
-module _ (ps : List Pair) (i issuer : ℕ) (digest : List ℕ) where
-  pub listed_step : i < length ps → listed (drop i ps) issuer digest ≡ is_pair (get_or ps i no_pair) issuer digest || listed (drop (i + 1) ps) issuer digest
-  unfolding listed
-  listed_step h = rw (drop_more ps i no_pair h)
-
-  pub listed_none : length ps ≤ i → listed (drop i ps) issuer digest ≡ false
-  unfolding listed
-  listed_none h = rw (drop_all i ps h)
-
-or_false : (b : Bool) → (b || false) ≡ b
-or_false true = refl
-or_false false = refl
-
 -- one more pair is looked at last
 listed_more : (ps : List Pair) (p : Pair) (issuer : ℕ) (digest : List ℕ) → listed (ps ++ (p ∷ [])) issuer digest ≡ listed ps issuer digest || is_pair p issuer digest
-unfolding listed
-listed_more [] p issuer digest = or_false (is_pair p issuer digest)
-listed_more (q ∷ ps) p issuer digest = ap (λ b. is_pair q issuer digest || b) (listed_more ps p issuer digest) ∙ sym (or_assoc (is_pair q issuer digest) (listed ps issuer digest) (is_pair p issuer digest))
-  where
-    or_assoc : (a b c : Bool) → ((a || b) || c) ≡ (a || (b || c))
-    or_assoc true b c = refl
-    or_assoc false b c = refl
+listed_more ps p issuer digest = list_any-append (λ q. is_pair q issuer digest) ps (p ∷ []) ∙ ap (λ b. listed ps issuer digest || b) (or-false (is_pair p issuer digest))
 
 -- a pair is itself, and no other
 pair_self : (n : ℕ) (d : List ℕ) → is_pair (record { issuer = n; digest = d }) n d ≡ true
@@ -61,6 +39,6 @@ module _ (n : ℕ) (ps ps' : List Pair) (m mark : List ℕ) (is : mark ≡ sha25
     name = refl;
     marked = and_from _ _ ((bytes_eq-Decides mark (sha256 m)).1 is) (listed_after n mark ∙ or_right _ _ (pair_self n mark));
     kept = λ i x k g. let a = and_parts (bytes_eq k (sha256 x)) (listed ps i k) g in and_from _ _ a.0 (listed_after i k ∙ or_left _ _ a.1);
-    others = λ i x k o. ap (λ b. bytes_eq k (sha256 x) && b) (listed_after i k ∙ ap (λ b. listed ps i k || b) (pair_other n i mark k o) ∙ or_false (listed ps i k));
+    others = λ i x k o. ap (λ b. bytes_eq k (sha256 x) && b) (listed_after i k ∙ ap (λ b. listed ps i k || b) (pair_other n i mark k o) ∙ or-false (listed ps i k));
     left = let l : length ps' ≡ length ps + 1 = ap length more ∙ length-append ps (record { issuer = n; digest = mark } ∷ []) in ap Some (omega arith);
   }

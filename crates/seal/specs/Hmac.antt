@@ -12,7 +12,7 @@ abbrev pub hmac_keys : HmacSeal → List Key
 hmac_keys s = vec_items s.keys
 
 -- a mark is good where the issuer has a key, and the mark is the message's HMAC under it
-unfoldable pub is_under : Option (List ℕ) → List ℕ → List ℕ → Bool
+abbrev pub is_under : Option (List ℕ) → List ℕ → List ℕ → Bool
 is_under None message mark = false
 is_under (Some key) message mark = bytes_eq mark (hmac key message)
 

@@ -1,7 +1,6 @@
 // Seals: what makes marks and checks them.
 #![tactic(auto)]
 
-mod bytes;
 mod decline;
 mod hmac;
 mod key;
@@ -12,7 +11,7 @@ mod seal;
 pub use decline::{MakingDecline, SealDecline};
 pub use hmac::HmacSeal;
 pub use key::Key;
-pub use key::calls::key_named;
+pub use key::calls::{check_keys, key_named};
 pub use listed::ListedSeal;
 pub use pair::Pair;
 pub use seal::Seal;
@@ -56,7 +55,7 @@ mod tests {
     fn number_of<S: Drop>(made: Result<S, MakingDecline>) -> Option<u32> {
         match made {
             Ok(_) => None,
-            Err(why) => why.number(),
+            Err(why) => why.into(),
         }
     }
 
@@ -69,7 +68,7 @@ mod tests {
         let mut again = keys(heap, 2)?;
         again.push(key(0, 8))?;
         assert_eq!(rt; number_of(HmacSeal::new(again)), Some(27));
-        assert_eq!(rt; MakingDecline::NoMemory.number(), None);
+        assert_eq!(rt; Option::<u32>::from(MakingDecline::NoMemory), None);
         Ok(())
     }
 
@@ -83,9 +82,8 @@ mod tests {
             return Err(Fail::new("two keys make a seal"));
         };
         assert_eq!(rt; seal.name(), 7);
-        let mark = match seal.make(b"body") {
-            Ok(mark) => mark,
-            Err(_) => return Err(Fail::new("marks never end")),
+        let Ok(mark) = seal.make(b"body") else {
+            return Err(Fail::new("marks never end"));
         };
         assert_eq!(rt; mark, sha256::mark(&[7; 32], b"body"));
         assert!(rt; seal.check(7, b"body", &mark));
@@ -112,7 +110,7 @@ mod tests {
         assert!(rt; !seal.check(7, b"bodY", &mark));
         assert_eq!(rt; seal.make(b"body"), Ok(mark));
         assert_eq!(rt; seal.make(b"body"), Err(SealDecline::NoneLeft));
-        assert_eq!(rt; SealDecline::NoneLeft.number(), 24);
+        assert_eq!(rt; u32::from(SealDecline::NoneLeft), 24);
         Ok(())
     }
 }

@@ -6,7 +6,8 @@ use crate::pair::Pair;
 mod adding;
 pub mod calls;
 
-// A list of at most 64 pairs, with memory for all of them.
+// A list of at most 64 pairs, with memory for all of them. It is seen with its fields and by no model: `self.new ≡ self.old` then says
+// that the vector stays as it is, its memory included.
 #[derive(Drop)]
 pub struct ListedSeal {
     name: u32,

@@ -1,22 +1,34 @@
 -- Lemmas on the definitions of SHA-256 and HMAC.
-use Rattle.std.proofs.Common.{◌≡◌, ℕ, zero, suc, ◌+◌, ◌-◌, ◌*◌, ◌/◌, ◌%◌, ◌<◌, ◌≤◌, List, [], ◌∷◌, ◌++◌, length, get_or, take, drop, set, replicate, sym, refl, ap, ◌∙◌, inl, inr, suc-add, zero-add, add-one, arith}
-use Rattle.std.proofs.lemmas.List.{take_more, flat_map_more, drop_more, drop_all, take_more_set, length-take-le, get_or-take, append_assoc, length-append, length-replicate, length-drop, take-append-le, drop-append-le, drop-drop, take-append-drop, take_at, drop_at, set_at, drop-replicate, take-replicate}
+use Rattle.std.proofs.Common.{w32, ◌≡◌, ℕ, zero, suc, ◌+◌, ◌-◌, ◌*◌, ◌/◌, ◌%◌, ◌<◌, ◌≤◌, List, ◌∷◌, ◌++◌, length, get_or, take, drop, set, replicate, sym, refl, ap, ◌∙◌, inl, inr, suc-add, zero-add, add-one, arith}
+use Rattle.std.proofs.lemmas.List.{take_more_set, length-take-le, get_or-take, append_assoc, length-append, length-replicate, length-drop, take-append-le, drop-append-le, drop-drop, take-append-drop, take_at, drop_at, set_at, drop-replicate, take-replicate}
 use Rattle.std.proofs.lemmas.Bool.{cases_lt, lt-ltb, le-ltb}
 use lib.Seq.{take-append-add}
 use Rattle.sha256.specs.declared.words.Words.{Words}
-use Rattle.sha256.specs.Hash.{round, rounds, extended, next_word, σ0, σ1, ◌⊞◌, compressed, after_blocks, padding_with, padding, padded, eight_bytes, bytes_of, four_bytes, initial, sha256}
+use Rattle.std.specs.Int.{rotate_right, from_be_bytes}
+use Rattle.std.specs.Simd.{first_chunks}
+use Rattle.sha256.specs.Hash.{ROTR, word, extended, next_word, σ0, σ1, ◌⊞◌, compressed, after_blocks, padding_with, padding, padded, eight_bytes, bytes_of, initial, sha256}
 use Rattle.sha256.specs.Midway.{tail_blocks, digest_after}
-use Rattle.sha256.specs.Mac.{hmac, xored, key_block}
-use Rattle.std.specs.List.{flat_map}
+use Rattle.std.specs.List.{fold}
 
-pub rounds_more : (v : Words) (ks ws : List ℕ) (i : ℕ) → i < length ks → i < length ws
-    → rounds v (drop i ks) (drop i ws) ≡ rounds (round v (get_or ks i 0) (get_or ws i 0)) (drop (i + 1) ks) (drop (i + 1) ws)
-unfolding rounds
-rounds_more v ks ws i h k = rw (drop_more ks i 0 h, drop_more ws i 0 k)
+-- the library's rotation of a word is ROTR, below a whole turn
+pub rotation : (n x : ℕ) → 0 < n → n < 32 → rotate_right w32 x n ≡ ROTR n x
+unfolding ROTR
+rotation n x p h =
+    let e : n % 32 ≡ n = omega arith in
+    let f : (32 - n) % 32 ≡ 32 - n = omega arith in
+    rw (e, f) refl
 
-pub rounds_all : (v : Words) (ks ws : List ℕ) (i : ℕ) → length ks ≤ i → rounds v (drop i ks) (drop i ws) ≡ v
-unfolding rounds
-rounds_all v ks ws i h = rw (drop_all i ks h)
+-- the library's chunks of four bytes are the words of a block
+pub word_chunk : (k t : ℕ) (xs d : List ℕ) → t < k → 4 * k ≤ length xs → from_be_bytes w32 (get_or (first_chunks 4 k xs) t d) ≡ word xs t
+word_chunk zero t xs d h l = absurd (omega arith)
+word_chunk (suc k) zero (a ∷ b ∷ c ∷ e ∷ xs) d h l = refl
+word_chunk (suc k) (suc t) (a ∷ b ∷ c ∷ e ∷ xs) d h l =
+    let n0 : 4 * suc t ≡ suc (suc (suc (suc (4 * t)))) = omega arith in
+    let n1 : 4 * suc t + 1 ≡ suc (suc (suc (suc (4 * t + 1)))) = omega arith in
+    let n2 : 4 * suc t + 2 ≡ suc (suc (suc (suc (4 * t + 2)))) = omega arith in
+    let n3 : 4 * suc t + 3 ≡ suc (suc (suc (suc (4 * t + 3)))) = omega arith in
+    rw (n3, n2, n1, n0) (word_chunk k t xs d (omega arith) (omega arith))
+word_chunk (suc k) t xs d h l = absurd (omega arith)
 
 -- a word that `next_word` reads, k before the end, is the word j of the whole schedule
 before : (w : List ℕ) (n k j : ℕ) → n + 16 ≤ length w → j + k ≡ n + 16 → 0 < k → get_or (take (n + 16) w) (length (take (n + 16) w) - k) 0 ≡ get_or w j 0
@@ -50,7 +62,7 @@ unfolding after_blocks
 after_blocks_add zero n v xs = rw zero-add
 after_blocks_add (suc m) n v xs =
     let e : 64 + 64 * m ≡ 64 * suc m = omega arith in
-    rw suc-add (after_blocks_add m n (compressed v (take 64 xs)) (drop 64 xs) ∙ ap (after_blocks n (after_blocks m (compressed v (take 64 xs)) (drop 64 xs))) (drop-drop (64 * m) 64 xs ∙ ap (λ k. drop k xs) e))
+    rw (suc-add m n) (after_blocks_add m n (compressed v (take 64 xs)) (drop 64 xs) ∙ ap (after_blocks n (after_blocks m (compressed v (take 64 xs)) (drop 64 xs))) (drop-drop (64 * m) 64 xs ∙ ap (λ k. drop k xs) e))
 
 -- the hash of n blocks reads these blocks only
 pub after_blocks_front : (n : ℕ) (v : Words) (xs ys : List ℕ) → 64 * n ≤ length xs → after_blocks n v (xs ++ ys) ≡ after_blocks n v xs
@@ -64,14 +76,20 @@ pub after_blocks_take : (n : ℕ) (v : Words) (xs : List ℕ) → 64 * n ≤ len
 after_blocks_take n v xs h =
     sym (after_blocks_front n v (take (64 * n) xs) (drop (64 * n) xs) (omega (arith, length-take-le (64 * n) xs h))) ∙ ap (after_blocks n v) (take-append-drop (64 * n) xs)
 
--- one block more, in a loop
-pub after_blocks_more : (n i : ℕ) (v : Words) (xs : List ℕ) → i < n
-    → after_blocks (n - i) v (drop (64 * i) xs) ≡ after_blocks (n - (i + 1)) (compressed v (take 64 (drop (64 * i) xs))) (drop (64 * (i + 1)) xs)
+-- the library's chunks of 64 bytes are the blocks
+pub after_chunks : (n : ℕ) (v : Words) (xs : List ℕ) → fold compressed v (first_chunks 64 n xs) ≡ after_blocks n v xs
 unfolding after_blocks
-after_blocks_more n i v xs h =
-    let e : n - i ≡ suc (n - (i + 1)) = omega arith in
-    let f : 64 * i + 64 ≡ 64 * (i + 1) = omega arith in
-    rw (e, ← f, ← drop-drop 64 (64 * i) xs)
+after_chunks zero v xs = refl
+after_chunks (suc n) v xs = after_chunks n (compressed v (take 64 xs)) (drop 64 xs)
+
+chunks_take : (j k : ℕ) (xs : List ℕ) → j ≤ k → take j (first_chunks 64 k xs) ≡ first_chunks 64 j xs
+chunks_take zero k xs h = refl
+chunks_take (suc j) zero xs h = absurd (omega arith)
+chunks_take (suc j) (suc k) xs h = ap (λ ys. take 64 xs ∷ ys) (chunks_take j k (drop 64 xs) (omega arith))
+
+-- the first blocks of two
+pub after_first_chunks : (n : ℕ) (v : Words) (xs : List ℕ) → length xs ≡ 128 → n ≤ 2 → fold compressed v (take n (first_chunks 64 (length xs / 64) xs)) ≡ after_blocks n v xs
+after_first_chunks n v xs l h = let some : n ≤ length xs / 64 = omega arith in ap (fold compressed v) (chunks_take n (length xs / 64) xs some) ∙ after_chunks n v xs
 
 -- padding
 
@@ -80,11 +98,9 @@ unfolding padding_with eight_bytes
 length-padding n bits = simp (length-append, length-replicate) (omega arith)
 
 pub tail_room : (n : ℕ) → n < 64 → n + 9 + (119 - n % 64) % 64 ≡ 64 * tail_blocks n
-unfolding tail_blocks
 tail_room n h = elim (cases_lt n 56) [ inl l ↦ rw (lt-ltb n 56 l) (omega arith) | inr g ↦ rw (le-ltb n 56 g) (omega arith) ]
 
 pub tail_few : (n : ℕ) → tail_blocks n ≤ 2
-unfolding tail_blocks
 tail_few n = elim (cases_lt n 56) [ inl l ↦ rw (lt-ltb n 56 l) (omega arith) | inr g ↦ rw (le-ltb n 56 g) (omega arith) ]
 
 padding_same : (m n a b : ℕ) → m % 64 ≡ n % 64 → a ≡ b → padding_with m a ≡ padding_with n b
@@ -92,32 +108,31 @@ unfolding padding_with
 padding_same m n a b p q = rw (p, q)
 
 -- the tail as it is written: the rest, the mark at its end, zeros up to e - 8, and the length
-pub tail_is : (rest be t u more : List ℕ) (n e z : ℕ) → length rest ≡ n → length be ≡ 8 → n + 9 + z ≡ e → e ≤ 128
-    → t ≡ rest ++ drop (0 + n) (replicate 128 0)
-    → u ≡ take (e - 8) (set t n 0x80) ++ (be ++ more)
-    → take e u ≡ rest ++ (0x80 ∷ (replicate z 0 ++ be))
-tail_is rest be t u more n e z len eight at fits first second =
+pub tail_is : (rest be more : List ℕ) (n e z : ℕ) → length rest ≡ n → length be ≡ 8 → n + 9 + z ≡ e → e ≤ 128
+    → take e (take (e - 8) (set (rest ++ drop n (replicate 128 0)) n 0x80) ++ (be ++ more)) ≡ rest ++ (0x80 ∷ (replicate z 0 ++ be))
+tail_is rest be more n e z len eight at fits =
     let zeros : List ℕ = replicate (127 - n) 0 in
     let front : List ℕ = rest ++ (0x80 ∷ replicate z 0) in
-    let left : 128 - (0 + n) ≡ suc (127 - n) = omega arith in
-    let blank : drop (0 + n) (replicate 128 0) ≡ 0 ∷ zeros = drop-replicate (0 + n) 128 0 ∙ ap (λ k. replicate k 0) left in
-    let marked : set t n 0x80 ≡ rest ++ (0x80 ∷ zeros) = rw (first, blank) (set_at rest 0 zeros 0x80 n len) in
+    let left : 128 - n ≡ suc (127 - n) = omega arith in
+    let blank : drop n (replicate 128 0) ≡ 0 ∷ zeros = drop-replicate n 128 0 ∙ ap (λ k. replicate k 0) left in
+    let marked : set (rest ++ drop n (replicate 128 0)) n 0x80 ≡ rest ++ (0x80 ∷ zeros) = rw blank (set_at rest 0 zeros 0x80 n len) in
     let cut : e - 8 ≡ length rest + suc z = omega arith in
     let fits-z : z ≤ 127 - n = omega arith in
-    let taken : take (e - 8) (set t n 0x80) ≡ front =
-    rw (marked, cut) (take-append-add rest (0x80 ∷ zeros) (suc z) ∙ ap (λ k. rest ++ (0x80 ∷ k)) (take-replicate z (127 - n) 0 fits-z)) in
+    let taken : take (e - 8) (rest ++ (0x80 ∷ zeros)) ≡ front =
+    rw cut (take-append-add rest (0x80 ∷ zeros) (suc z) ∙ ap (λ k. rest ++ (0x80 ∷ k)) (take-replicate z (127 - n) 0 fits-z)) in
     let long : length (front ++ be) ≡ e = simp (length-append, length-replicate) (omega arith) in
-    rw (second, taken, ← append_assoc front be more, take_at (front ++ be) more e long, append_assoc rest (0x80 ∷ replicate z 0) be)
+    rw (marked, taken, ← append_assoc front be more, take_at (front ++ be) more e long, append_assoc rest (0x80 ∷ replicate z 0) be)
 
 -- the whole blocks, then the tail
 pub finish_is : (start : Words) (done bits : ℕ) (m rest t : List ℕ) → done % 64 ≡ 0 → length t ≡ 128
-    → rest ≡ drop (64 * (length m / 64)) m
+    → rest ≡ drop (length m / 64 * 64) m
     → bits ≡ ((done + length m) * 8) % 18446744073709551616
     → take (64 * tail_blocks (length rest)) t ≡ rest ++ padding_with (length rest) bits
     → bytes_of (after_blocks (tail_blocks (length rest)) (after_blocks (length m / 64) start m) t) ≡ digest_after start done m
 unfolding digest_after padding
-finish_is start done bits m rest t whole long is-rest is-bits written =
+finish_is start done bits m rest t whole long cut is-bits written =
     let q : ℕ = length m / 64 in
+    let is-rest : rest ≡ drop (64 * q) m = let at : 64 * q ≡ q * 64 = omega arith in rw at cut in
     let nb : ℕ = tail_blocks (length rest) in
     let pad : List ℕ = padding_with (done + length m) (((done + length m) * 8) % 18446744073709551616) in
     let size : length rest ≡ length m - 64 * q = ap length is-rest ∙ length-drop (64 * q) m in
@@ -141,7 +156,7 @@ unfolding after_blocks
 after_blocks_one n v b p h = ap (λ x. after_blocks n (compressed v x) (drop 64 (b ++ p))) (take_at b p 64 h) ∙ ap (after_blocks n (compressed v b)) (drop_at b p 64 h)
 
 -- a block that has been hashed
-pub after_one : (v : Words) (done : ℕ) (b rest : List ℕ) → length b ≡ 64 → digest_after v done (b ++ rest) ≡ digest_after (compressed v b) (done + 64) rest
+after_one : (v : Words) (done : ℕ) (b rest : List ℕ) → length b ≡ 64 → digest_after v done (b ++ rest) ≡ digest_after (compressed v b) (done + 64) rest
 unfolding digest_after
 after_one v done b rest h =
     let n : done + length (b ++ rest) ≡ done + 64 + length rest = simp length-append (omega arith) in
@@ -150,40 +165,11 @@ after_one v done b rest h =
     let count : length (b ++ p) / 64 ≡ suc (length p / 64) = simp length-append (omega arith) in
     ap (λ x. bytes_of (after_blocks (length x / 64) v x)) e ∙ ap (λ k. bytes_of (after_blocks k v (b ++ p))) count ∙ ap bytes_of (after_blocks_one (length p / 64) v b p h)
 
-pub after_block : (v : Words) (b rest : List ℕ) → length b ≡ 64 → digest_after v 0 (b ++ rest) ≡ digest_after (compressed v b) 64 rest
-after_block v b rest h = after_one v 0 b rest h
-
--- a part written after what stands already
-pub put_next : (out after src front : List ℕ) (at n m : ℕ) → after ≡ take at out ++ (src ++ drop m out) → take at out ≡ front → length front ≡ at → at + length src ≡ n
-    → take n after ≡ front ++ src
-put_next out after src front at n m e f l k =
-    let long : length (front ++ src) ≡ n = omega (arith, length-append front src) in
-    rw (e, f, ← append_assoc front src (drop m out)) (take_at (front ++ src) (drop m out) n long)
-
--- a loop that writes the words of a list, four bytes each
-pub word_next : (words r out src : List ℕ) (i m : ℕ) → i < length words → 4 * i + 4 ≤ length r → take (4 * i) r ≡ flat_map four_bytes (take i words)
-    → src ≡ four_bytes (get_or words i 0) → out ≡ take (4 * i) r ++ (src ++ drop m r) → take (4 * (i + 1)) out ≡ flat_map four_bytes (take (i + 1) words)
-unfolding four_bytes
-word_next words r out src i m h room before is after =
-    let long : length (flat_map four_bytes (take i words)) ≡ 4 * i = sym (ap length before) ∙ length-take-le (4 * i) r (omega arith) in
-    let four : 4 * i + length src ≡ 4 * (i + 1) = omega (arith, ap length is) in
-    put_next r out src (flat_map four_bytes (take i words)) (4 * i) (4 * (i + 1)) m after before long four
-    ∙ ap (λ x. flat_map four_bytes (take i words) ++ x) is
-    ∙ flat_map_more four_bytes [] (take i words) (get_or words i 0)
-    ∙ ap (flat_map four_bytes) (sym (take_more words i 0 h))
-
 -- from the start on, with nothing done
 pub from_start : (m : List ℕ) → digest_after initial 0 m ≡ sha256 m
 unfolding digest_after sha256 padded
 from_start m = ap (λ n. bytes_of (after_blocks (length (m ++ padding n) / 64) initial (m ++ padding n))) (zero-add (length m))
 
--- HMAC by two hash values that are each one block on
-pub mac_is : (key m b x y inner out : List ℕ) (v w : Words) → b ≡ key_block key
-    → x ≡ xored 0x36 b → length x ≡ 64 → v ≡ compressed initial x → inner ≡ digest_after v 64 m
-    → y ≡ xored 0x5c b → length y ≡ 64 → w ≡ compressed initial y → out ≡ digest_after w 64 inner
-    → out ≡ hmac key m
-unfolding hmac
-mac_is key m b x y inner out v w is_b is_x len-x is-v is-inner is_y len-y is-w is-out =
-    let i : sha256 (x ++ m) ≡ digest_after (compressed initial x) 64 m = sym (from_start (x ++ m)) ∙ after_block initial x m len-x in
-    let o : sha256 (y ++ inner) ≡ digest_after (compressed initial y) 64 inner = sym (from_start (y ++ inner)) ∙ after_block initial y inner len-y in
-    cc
+-- from a block on, that has been hashed
+pub from_block : (x m : List ℕ) → length x ≡ 64 → digest_after (compressed initial x) 64 m ≡ sha256 (x ++ m)
+from_block x m h = sym (after_one initial 0 x m h) ∙ from_start (x ++ m)

@@ -3,15 +3,15 @@ use Rattle.std.specs.Prelude.{ℕ, ◌-◌, cond, List, ◌++◌, map, length, r
 use Rattle.sha256.specs.Hash.{sha256}
 
 -- the key with zeros after it, up to the 64 bytes of a block
-unfoldable pub zero_filled : List ℕ → List ℕ
+abbrev pub zero_filled : List ℕ → List ℕ
 zero_filled key = key ++ replicate (64 - length key) 0
 
 -- the key as a block; a key that is longer than a block goes by its digest
-unfoldable pub key_block : List ℕ → List ℕ
+abbrev pub key_block : List ℕ → List ℕ
 key_block key = zero_filled (cond (nat_le (length key) 64) key (sha256 key))
 
 -- a block with each of its bytes combined with the byte `pad` by exclusive or
-unfoldable pub xored : ℕ → List ℕ → List ℕ
+abbrev pub xored : ℕ → List ℕ → List ℕ
 xored pad block = map (λ x. bit_xor x pad) block
 
 -- the byte that is repeated in the inner block

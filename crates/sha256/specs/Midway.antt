@@ -4,7 +4,7 @@ use Rattle.sha256.specs.declared.words.Words.{Words}
 use Rattle.sha256.specs.Hash.{padding, after_blocks, bytes_of}
 
 -- how many blocks the last n bytes of a message, n below 64, fill together with the padding
-unfoldable pub tail_blocks : ℕ → ℕ
+abbrev pub tail_blocks : ℕ → ℕ
 tail_blocks n = cond (nat_lt n 56) 1 2
 
 -- the digest of a message whose first `done` bytes, whole blocks, have led to v, and of which `rest` is to come

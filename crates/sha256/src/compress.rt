@@ -1,7 +1,7 @@
-ghost use Rattle.std.specs.Prelude.{◌≡◌, length};
+ghost use Rattle.std.specs.Prelude.{◌≡◌};
 ghost use Rattle.sha256.specs.Hash.{round, rounds, constants, added, compressed};
 
-use crate::functions::{big_sigma0, big_sigma1, choose, majority};
+use crate::functions::{big_sigma, choose, majority};
 use crate::schedule::schedule_of;
 use crate::words::Words;
 
@@ -23,11 +23,11 @@ fn one_round(v: Words, k: u32, w: u32) -> Words
 {
     let t1 = v
         .h
-        .wrapping_add(big_sigma1(v.e))
+        .wrapping_add(big_sigma::<6, 11, 25>(v.e))
         .wrapping_add(choose(v.e, v.f, v.g))
         .wrapping_add(k)
         .wrapping_add(w);
-    let t2 = big_sigma0(v.a).wrapping_add(majority(v.a, v.b, v.c));
+    let t2 = big_sigma::<2, 13, 22>(v.a).wrapping_add(majority(v.a, v.b, v.c));
     Words {
         a: t1.wrapping_add(t2),
         b: v.a,
@@ -44,11 +44,9 @@ fn one_round(v: Words, k: u32, w: u32) -> Words
 fn all_rounds(start: Words, w: [u32; 64]) -> Words
     ensures { result ≡ rounds start constants w }
 {
-    let mut v = start;
-    for t in 0..64 {
-        v = one_round(v, K[t], w[t]);
-    }
-    v
+    K.iter()
+        .zip(&w)
+        .fold(start, |v, (k, w)| one_round(v, *k, *w))
 }
 
 // The sum of two hash values, word by word.
@@ -68,8 +66,7 @@ fn sum(x: Words, y: Words) -> Words
 }
 
 // The hash value that follows `v`, after one block.
-pub(crate) fn compress(v: Words, block: &[u8]) -> Words
-    requires { length block.now ≡ 64 }
+pub(crate) fn compress(v: Words, block: &[u8; 64]) -> Words
     ensures { result ≡ compressed v block.now }
 {
     sum(v, all_rounds(v, schedule_of(block)))

@@ -1,7 +1,6 @@
 // SHA-256 (FIPS 180-4) and HMAC-SHA-256 (RFC 2104).
 #![tactic(auto)]
 
-mod bytes;
 mod compress;
 mod functions;
 mod mac;
@@ -15,16 +14,12 @@ pub use message::digest;
 #[cfg(test)]
 mod tests {
     use super::*;
+    use std::array;
 
     // A digest as four numbers of eight bytes, to be read beside the documents.
     fn quarters(r: [u8; 32]) -> [u64; 4] {
-        let mut q = [0; 4];
-        for i in 0..4 {
-            for k in 0..8 {
-                q[i] = (q[i] << 8) | r[8 * i + k] as u64;
-            }
-        }
-        q
+        let (quarters, _) = r.as_chunks::<8>();
+        array::from_fn(|i| u64::from_be_bytes(quarters[i]))
     }
 
     // The example of FIPS 180-4 with one block.

@@ -1,7 +1,7 @@
-ghost use Rattle.std.specs.Prelude.{◌≡◌, ◌≤◌, length};
+ghost use Rattle.std.specs.Prelude.{◌≡◌, ◌≤◌, ◌++◌, length};
+ghost use Rattle.sha256.specs.Hash.{sha256};
 ghost use Rattle.sha256.specs.Mac.{zero_filled, key_block, xored, hmac};
 
-use crate::bytes::put;
 use crate::compress::compress;
 use crate::message::{INITIAL, digest, finish};
 
@@ -17,7 +17,7 @@ fn fill(key: &[u8]) -> [u8; 64]
     ensures { result ≡ zero_filled key.now }
 {
     let mut b = [0; 64];
-    put(&mut b, 0, key);
+    b[..key.len()].copy_from_slice(key);
     b
 }
 
@@ -36,18 +36,22 @@ fn block_of(key: &[u8]) -> [u8; 64]
 fn xor(block: [u8; 64], pad: u8) -> [u8; 64]
     ensures { result ≡ xored pad block }
 {
-    let mut b = block;
-    for i in 0..64 {
-        b[i] = b[i] ^ pad;
-    }
-    b
+    block.map(|byte| byte ^ pad)
+}
+
+// The digest of a message after the block combined with `pad`.
+fn keyed_digest(block: [u8; 64], pad: u8, message: &[u8]) -> [u8; 32]
+    ensures { result ≡ sha256 (xored pad block ++ message.now) }
+{
+    finish(compress(INITIAL, &xor(block, pad)), 64, message)
 }
 
 // The HMAC-SHA-256 of `message` under `key`.
+#[tactic(auto, unfolding(crate::specs::Mac::hmac))]
 pub fn mark(key: &[u8], message: &[u8]) -> [u8; 32]
     ensures { result ≡ hmac key.now message.now }
 {
     let block = block_of(key);
-    let inner = finish(compress(INITIAL, &xor(block, IPAD)), 64, message);
-    finish(compress(INITIAL, &xor(block, OPAD)), 64, &inner)
+    let inner = keyed_digest(block, IPAD, message);
+    keyed_digest(block, OPAD, &inner)
 }

@@ -1,8 +1,7 @@
-ghost use Rattle.std.specs.Prelude.{◌≡◌, ◌+◌, ◌*◌, ◌%◌, ◌<◌, ◌≤◌, ◌++◌, length, take};
-ghost use Rattle.sha256.specs.Hash.{after_blocks, padding_with, bytes_of, sha256};
+ghost use Rattle.std.specs.Prelude.{◌≡◌, ◌+◌, ◌*◌, ◌%◌, ◌<◌, ◌≤◌, ◌++◌, length, take, fold};
+ghost use Rattle.sha256.specs.Hash.{compressed, padding_with, sha256};
 ghost use Rattle.sha256.specs.Midway.{tail_blocks, digest_after};
 
-use crate::bytes::put;
 use crate::compress::compress;
 use crate::words::Words;
 
@@ -18,16 +17,11 @@ pub(crate) const INITIAL: Words = Words {
     h: 0x5be0cd19,
 };
 
-// The hash value that follows `start`, after the first `n` blocks of `bytes`.
-fn blocks(start: Words, bytes: &[u8], n: usize) -> Words
-    requires { 64 * n ≤ length bytes.now }
-    ensures { result ≡ after_blocks n start bytes.now }
+// The hash value that follows `start`, after some blocks.
+fn hash_blocks(start: Words, blocks: &[[u8; 64]]) -> Words
+    ensures { result ≡ fold compressed start blocks.now }
 {
-    let mut v = start;
-    for i in 0..n {
-        v = compress(v, &bytes[64 * i..64 * i + 64]);
-    }
-    v
+    blocks.iter().fold(start, compress)
 }
 
 // How many blocks the last `n` bytes of a message fill together with the padding.
@@ -48,22 +42,10 @@ fn tail(rest: &[u8], bits: u64) -> [u8; 128]
     let n = rest.len();
     let end = 64 * tail_blocks(n);
     let mut t = [0; 128];
-    put(&mut t, 0, rest);
+    t[..n].copy_from_slice(rest);
     t[n] = 0x80;
-    put(&mut t, end - 8, &bits.to_be_bytes());
+    t[end - 8..end].copy_from_slice(&bits.to_be_bytes());
     t
-}
-
-// The bytes of a hash value.
-fn bytes_of(v: Words) -> [u8; 32]
-    ensures { result ≡ bytes_of v }
-{
-    let words = [v.a, v.b, v.c, v.d, v.e, v.f, v.g, v.h];
-    let mut r = [0; 32];
-    for i in 0..8 {
-        put(&mut r, 4 * i, &words[i].to_be_bytes());
-    }
-    r
 }
 
 // The digest of a message whose first `done` bytes, whole blocks, have led to `start`, and which ends with `message`.
@@ -71,16 +53,16 @@ pub(crate) fn finish(start: Words, done: u64, message: &[u8]) -> [u8; 32]
     requires { done % 64 ≡ 0 }
     ensures { result ≡ digest_after start done message.now }
 {
-    let whole = message.len() / 64;
-    let v = blocks(start, message, whole);
-    let rest = &message[64 * whole..message.len()];
+    let (whole, rest) = message.as_chunks::<64>();
     let bits = done.wrapping_add(message.len() as u64).wrapping_mul(8);
-    let t = tail(rest, bits);
-    let n = tail_blocks(rest.len());
-    bytes_of(blocks(v, &t, n))
+    let tail = tail(rest, bits);
+    let (blocks, _) = tail.as_chunks::<64>();
+    let last = &blocks[..tail_blocks(rest.len())];
+    hash_blocks(hash_blocks(start, whole), last).into()
 }
 
 // The SHA-256 digest of `message`.
+#[tactic(auto, using(crate::proofs::Laws::from_start))]
 pub fn digest(message: &[u8]) -> [u8; 32]
     ensures { result ≡ sha256 message.now }
 {

@@ -1,12 +1,16 @@
 // SHA-256. The messages of `examples` and `a_million` and their digests are the examples that NIST gives for FIPS 180-4, and Python's hashlib
 // gives the same; the digests of LENGTHS are from hashlib.
-use crate::rows::{Row, Table, between, every, hex};
+use crate::rows::{Row, every, hex};
 use sha256::digest;
+use std::alloc::{AllocError, Global};
+use std::iter::successors;
 use std::process::Abort;
 use std::test::*;
 
-fn hashed(rt: &impl Abort, message: &[u8], expected: &str) -> Result<(), Fail> {
-    assert_eq!(rt; digest(message).as_slice(), hex(expected).slice());
+// Whether a message has this digest.
+fn hashed(rt: &(impl Abort + AllocGlobal), message: &[u8], expected: &str) -> Result<(), Fail> {
+    let expected = hex(rt.alloc(), expected)?;
+    assert_eq!(rt; digest(message).as_slice(), expected.as_slice());
     Ok(())
 }
 
@@ -58,31 +62,23 @@ const LENGTHS: &str = "\
 128: 54c9eb041badfd7064645067b107661fed6113197ce2dd066ba69618abd3732f
 ";
 
-// The bytes 0, 7, 14 and so on, modulo 256.
-fn pattern() -> [u8; 128] {
-    let mut bytes = [0u8; 128];
-    let mut next = 0u8;
-    for i in 0..128 {
-        bytes[i] = next;
-        next = next.wrapping_add(7);
-    }
-    bytes
+// So many of the bytes 0, 7, 14 and so on, modulo 256.
+fn pattern(alloc: Global, len: usize) -> Result<Vec<u8>, AllocError> {
+    successors(Some(0u8), |byte| Some(byte.wrapping_add(7)))
+        .take(len)
+        .collect(alloc)
 }
 
-// The parts of the pattern.
-struct Parts;
-
-impl Table for Parts {
-    fn row(rt: &impl Abort, text: &str) -> Result<(), Fail> {
-        let mut row = Row::new(text);
-        let pattern = pattern();
-        let message = between(&pattern, 0, row.number() as usize);
-        assert_eq!(rt; digest(message).as_slice(), row.bytes().slice(), "{text}");
-        Ok(())
-    }
+// Whether so many bytes of the pattern have this digest.
+fn part(rt: &(impl Abort + AllocGlobal), text: &str) -> Result<(), Fail> {
+    let row = Row::read(rt.alloc(), text)?;
+    let [len]: [u32; 1] = row.numbers.as_slice().try_into()?;
+    let message = pattern(rt.alloc(), len as usize)?;
+    assert_eq!(rt; digest(&message).as_slice(), row.bytes.as_slice(), "{text}");
+    Ok(())
 }
 
 #[test]
 fn lengths(rt: HostRuntime) -> Result<(), Fail> {
-    every::<Parts>(&rt, LENGTHS, 8)
+    every(&rt, LENGTHS, 8, |text| part(&rt, text))
 }

@@ -1,133 +1,117 @@
-// The kinds of certificates, with their fields as the tables have them: up to nine numbers, and a template.
-use certificate::{Base, Certificate, Header, Ianda, Id, Identity, Privilege, Reading, Refusal};
+// The kinds of certificates, with their fields as the tables have them.
+use certificate::{Base, Certificate, Header, Ianda, Id, Identity, Privilege};
 use clearance::Clearance;
 use role::Role;
+use std::alloc::{AllocError, Global};
 
-pub trait Kind: Certificate {
-    // The fields of these numbers, in their order, and this template; nothing where a number is no role or no clearance.
-    fn make(numbers: [u32; 9], template: [u8; 32]) -> Option<Self>;
+pub(crate) trait Kind: Certificate {
+    // The fields of these numbers, in their order, and of the template that ends the message, where the kind has one; nothing where the numbers
+    // are too few or too many, or one is no role or no clearance.
+    fn make(numbers: &[u32], message: &[u8]) -> Option<Self>;
 
-    // The numbers among the fields, in their order, with zeros after them; and the template, or zeros.
-    fn parts(self) -> ([u32; 9], [u8; 32]);
+    // The numbers among the fields, in their order.
+    fn numbers(self, alloc: Global) -> Result<Vec<u32>, AllocError>;
 
-    fn open(bytes: &[u8]) -> Result<Reading<'_, Self>, Refusal>;
-}
-
-fn header(n: [u32; 9]) -> Header {
-    Header {
-        identity: Identity {
-            issuer: n[0],
-            serial: n[1],
-        },
-        first: n[2],
-        last: n[3],
+    // The template among the fields, where the kind has one.
+    fn template(self) -> Option<[u8; 32]> {
+        None
     }
 }
 
-fn base(n: [u32; 9]) -> Base {
-    Base {
-        identity: Identity {
-            issuer: n[4],
-            serial: n[5],
-        },
-        card: n[6],
-    }
+// The header of the first four numbers, and the numbers after them.
+fn header(numbers: &[u32]) -> Option<(Header, &[u32])> {
+    let (&[issuer, serial, first, last], rest) = numbers.split_first_chunk::<4>()?;
+    let header = Header {
+        identity: Identity { issuer, serial },
+        first,
+        last,
+    };
+    Some((header, rest))
 }
 
-fn numbers(x: Header, y: Base, role: u32, clearance: u32) -> [u32; 9] {
-    [
-        x.identity.issuer,
-        x.identity.serial,
-        x.first,
-        x.last,
-        y.identity.issuer,
-        y.identity.serial,
-        y.card,
-        role,
-        clearance,
-    ]
+// The base of the first three numbers, and the numbers after them.
+fn base(numbers: &[u32]) -> Option<(Base, &[u32])> {
+    let (&[issuer, serial, card], rest) = numbers.split_first_chunk::<3>()?;
+    let base = Base {
+        identity: Identity { issuer, serial },
+        card,
+    };
+    Some((base, rest))
 }
 
-// The roles in the order of their numbers.
-fn role(number: u32) -> Option<Role> {
-    match number {
-        0 => Some(Role::UserOnly),
-        1 => Some(Role::Guard),
-        2 => Some(Role::SecurityOfficer),
-        3 => Some(Role::AuditManager),
-        _ => None,
-    }
+// The numbers of a header, in their order.
+fn header_numbers(x: Header) -> [u32; 4] {
+    [x.identity.issuer, x.identity.serial, x.first, x.last]
+}
+
+// The numbers of a base, in their order.
+fn base_numbers(x: Base) -> [u32; 3] {
+    [x.identity.issuer, x.identity.serial, x.card]
 }
 
 impl Kind for Id {
-    fn make(numbers: [u32; 9], _template: [u8; 32]) -> Option<Id> {
-        Some(Id {
-            header: header(numbers),
-            subject: numbers[4],
-        })
+    fn make(numbers: &[u32], _message: &[u8]) -> Option<Id> {
+        let (header, rest) = header(numbers)?;
+        let &[subject] = rest else {
+            return None;
+        };
+        Some(Id { header, subject })
     }
 
-    fn parts(self) -> ([u32; 9], [u8; 32]) {
-        let x = self.header;
-        let numbers = [
-            x.identity.issuer,
-            x.identity.serial,
-            x.first,
-            x.last,
-            self.subject,
-            0,
-            0,
-            0,
-            0,
-        ];
-        (numbers, [0; 32])
-    }
-
-    fn open(bytes: &[u8]) -> Result<Reading<'_, Id>, Refusal> {
-        Id::read(bytes)
+    fn numbers(self, alloc: Global) -> Result<Vec<u32>, AllocError> {
+        header_numbers(self.header)
+            .into_iter()
+            .chain([self.subject])
+            .collect(alloc)
     }
 }
 
 impl Kind for Ianda {
-    fn make(numbers: [u32; 9], template: [u8; 32]) -> Option<Ianda> {
+    fn make(numbers: &[u32], message: &[u8]) -> Option<Ianda> {
+        let (header, rest) = header(numbers)?;
+        let (base, rest) = base(rest)?;
+        let [] = rest else {
+            return None;
+        };
         Some(Ianda {
-            header: header(numbers),
-            base: base(numbers),
-            template,
+            header,
+            base,
+            template: *message.last_chunk()?,
         })
     }
 
-    fn parts(self) -> ([u32; 9], [u8; 32]) {
-        let template = self.template;
-        (numbers(self.header, self.base, 0, 0), template)
+    fn numbers(self, alloc: Global) -> Result<Vec<u32>, AllocError> {
+        header_numbers(self.header)
+            .into_iter()
+            .chain(base_numbers(self.base))
+            .collect(alloc)
     }
 
-    fn open(bytes: &[u8]) -> Result<Reading<'_, Ianda>, Refusal> {
-        Ianda::read(bytes)
+    fn template(self) -> Option<[u8; 32]> {
+        Some(self.template)
     }
 }
 
 impl<C: Clearance> Kind for Privilege<C> {
-    fn make(numbers: [u32; 9], _template: [u8; 32]) -> Option<Privilege<C>> {
+    fn make(numbers: &[u32], _message: &[u8]) -> Option<Privilege<C>> {
+        let (header, rest) = header(numbers)?;
+        let (base, rest) = base(rest)?;
+        let &[role, clearance] = rest else {
+            return None;
+        };
         Some(Privilege {
-            header: header(numbers),
-            base: base(numbers),
-            role: role(numbers[7])?,
-            clearance: C::of(numbers[8])?,
+            header,
+            base,
+            role: Role::try_from(role).ok()?,
+            clearance: C::of(clearance)?,
         })
     }
 
-    fn parts(self) -> ([u32; 9], [u8; 32]) {
-        let numbers = numbers(
-            self.header,
-            self.base,
-            self.role as u32,
-            self.clearance.number(),
-        );
-        (numbers, [0; 32])
-    }
-
-    fn open(bytes: &[u8]) -> Result<Reading<'_, Privilege<C>>, Refusal> {
-        Privilege::<C>::read(bytes)
+    fn numbers(self, alloc: Global) -> Result<Vec<u32>, AllocError> {
+        header_numbers(self.header)
+            .into_iter()
+            .chain(base_numbers(self.base))
+            .chain([self.role.into(), self.clearance.number()])
+            .collect(alloc)
     }
 }

@@ -5,7 +5,7 @@
 // I&A certificate, stand in the certificate alone. Each of 0, 127, 128, 255, 256, 32767, 32768, 2147483647, 2147483648 and 4294967295 stands
 // in each field that may hold any number.
 use crate::kinds::Kind;
-use crate::rows::{Bytes, Row, Table, array, between, every};
+use crate::rows::{Row, every};
 use certificate::{Ianda, Id, Privilege};
 use clearance::{Class, Clearance, Compartments};
 use std::process::Abort;
@@ -76,115 +76,94 @@ const COMPARTMENTS: &str = "\
 59, 4294967295 4294967295 4294967295 4294967295 4294967295 4294967295 4294967295, role 3, clearance 393215: 305d 3039 020500ffffffff 020500ffffffff 020500ffffffff 020500ffffffff 020500ffffffff 020500ffffffff 020500ffffffff 020103 020305ffff 04200e8e661024a9781b3d127bbd0eea32421d705526ca9f96a214faafb5de62e330
 ";
 
-// A certificate as it should be, and the length of its message.
+// The certificate of a row, as it should be.
 #[derive(Clone, Copy)]
-struct Sealed {
-    whole: Bytes,
-    message_len: usize,
+struct Sealed<'a, K> {
+    text: &'a str,
+    numbers: &'a [u32],
+    fields: K,
+    message: &'a [u8],
+    mark: [u8; 32],
+    whole: &'a [u8],
 }
 
-impl Sealed {
-    fn message(&self) -> &[u8] {
-        between(self.whole.slice(), 2, self.message_len.saturating_add(2))
+impl<'a, K: Kind> Sealed<'a, K> {
+    // Nothing where a row tells too little.
+    fn new(text: &'a str, row: &'a Row) -> Option<Sealed<'a, K>> {
+        let (message_len, numbers) = row.numbers.split_first()?;
+        let whole = row.bytes.as_slice();
+        let message = whole.get(2..)?.get(..*message_len as usize)?;
+        let fields = K::make(numbers, message)?;
+        let mark = *whole.last_chunk()?;
+        Some(Sealed {
+            text,
+            numbers,
+            fields,
+            message,
+            mark,
+            whole,
+        })
     }
 
-    // The last 32 bytes.
-    fn mark(&self) -> [u8; 32] {
-        array(self.whole.last(0))
+    // Whether fields have the numbers of the row, and the template of its bytes.
+    fn holds(&self, rt: &(impl Abort + AllocGlobal), fields: K) -> Result<(), Fail> {
+        let numbers = fields.numbers(rt.alloc())?;
+        assert_eq!(rt; numbers.as_slice(), self.numbers, "{}", self.text);
+        assert_eq!(rt; fields.template(), self.fields.template(), "{}", self.text);
+        Ok(())
     }
 
-    // In an I&A certificate: the 32 bytes that end where the element of the mark begins.
-    fn template(&self) -> [u8; 32] {
-        array(self.whole.last(34))
+    // Whether the certificate is read with these fields.
+    fn is_read(&self, rt: &(impl Abort + AllocGlobal)) -> Result<(), Fail> {
+        let reading = K::read(self.whole).map_err(|refusal| (refusal, self.text))?;
+        self.holds(rt, reading.fields)?;
+        assert_eq!(rt; reading.message, self.message, "{}", self.text);
+        assert_eq!(rt; reading.mark, self.mark, "{}", self.text);
+        Ok(())
+    }
+
+    // Whether the fields are written as the message and as the certificate.
+    fn is_written(&self, rt: &impl Abort) {
+        let message = self.fields.message();
+        assert_eq!(rt; message.as_slice(), self.message, "{}", self.text);
+        let whole = self.fields.write(self.mark);
+        assert_eq!(rt; whole.as_slice(), self.whole, "{}", self.text);
     }
 }
 
-// What a buffer holds before it is written into.
-const UNTOUCHED: [u8; 128] = [0xa5; 128];
-
-// Whether these bytes were written at the start of a buffer, their length was answered, and the rest of the buffer is as it was.
-fn wrote(
-    rt: &impl Abort,
-    text: &str,
-    out: &[u8; 128],
-    len: usize,
-    expected: &[u8],
-) -> Result<(), Fail> {
-    assert_eq!(rt; len, expected.len(), "{text}");
-    assert_eq!(rt; between(out, 0, len), expected, "{text}");
-    assert_eq!(rt;
-        between(out, len, 128),
-        between(&UNTOUCHED, len, 128),
-        "{text}"
-    );
+// Whether the certificate of a row is read and written as it should be.
+fn good<K: Kind>(rt: &(impl Abort + AllocGlobal), text: &str) -> Result<(), Fail> {
+    let row = Row::read(rt.alloc(), text)?;
+    let sealed: Sealed<K> = Sealed::new(text, &row).ok_or(("no certificate", text))?;
+    sealed.holds(rt, sealed.fields)?;
+    sealed.is_read(rt)?;
+    sealed.is_written(rt);
     Ok(())
-}
-
-// Whether the certificate is read with these fields.
-fn read<K: Kind>(rt: &impl Abort, text: &str, x: K, sealed: &Sealed) -> Result<(), Fail> {
-    match K::open(sealed.whole.slice()) {
-        Ok(y) => {
-            assert_eq!(rt; y.fields.parts(), x.parts(), "{text}");
-            assert_eq!(rt; y.message, sealed.message(), "{text}");
-            assert_eq!(rt; y.mark, sealed.mark(), "{text}");
-            Ok(())
-        }
-        Err(e) => {
-            let (number, at) = e.told();
-            Err(Fail::new(format_args!("refused: {number} at {at}: {text}")))
-        }
-    }
-}
-
-// Whether these fields are written as the message and as the certificate.
-fn written<K: Kind>(rt: &impl Abort, text: &str, x: K, sealed: &Sealed) -> Result<(), Fail> {
-    let mut out = UNTOUCHED;
-    let len = x.message(&mut out);
-    wrote(rt, text, &out, len, sealed.message())?;
-    let mut out = UNTOUCHED;
-    let len = x.write(sealed.mark(), &mut out);
-    wrote(rt, text, &out, len, sealed.whole.slice())
-}
-
-// The certificates of a kind that are read.
-struct Good<K> {
-    kind: K,
-}
-
-impl<K: Kind> Table for Good<K> {
-    fn row(rt: &impl Abort, text: &str) -> Result<(), Fail> {
-        let mut row = Row::new(text);
-        let message_len = row.number() as usize;
-        let numbers = row.numbers();
-        let whole = row.bytes();
-        let sealed = Sealed { whole, message_len };
-        let Some(x) = K::make(numbers, sealed.template()) else {
-            return Err(Fail::new(format_args!("no role, or no clearance: {text}")));
-        };
-        assert_eq!(rt; x.parts().0, numbers, "{text}");
-        read(rt, text, x, &sealed)?;
-        written(rt, text, x, &sealed)
-    }
 }
 
 #[test]
 fn ids(rt: HostRuntime) -> Result<(), Fail> {
-    every::<Good<Id>>(&rt, IDS, 12)
+    every(&rt, IDS, 12, |text| good::<Id>(&rt, text))
 }
 
 #[test]
 fn iandas(rt: HostRuntime) -> Result<(), Fail> {
-    every::<Good<Ianda>>(&rt, IANDAS, 12)
+    every(&rt, IANDAS, 12, |text| good::<Ianda>(&rt, text))
 }
 
 #[test]
 fn classes(rt: HostRuntime) -> Result<(), Fail> {
-    every::<Good<Privilege<Class>>>(&rt, CLASSES, 12)
+    every(&rt, CLASSES, 12, |text| good::<Privilege<Class>>(&rt, text))
 }
 
 #[test]
 fn compartments(rt: HostRuntime) -> Result<(), Fail> {
-    every::<Good<Privilege<Compartments>>>(&rt, COMPARTMENTS, 12)
+    every(
+        &rt,
+        COMPARTMENTS,
+        12,
+        |text| good::<Privilege<Compartments>>(&rt, text),
+    )
 }
 
 // The classes in the order of their numbers.
@@ -198,11 +177,7 @@ const ORDER: [Class; 6] = [
 ];
 
 #[test]
-fn class_numbers(rt: HostRuntime) -> Result<(), Fail> {
-    let mut number = 0u32;
-    for class in ORDER {
-        assert_eq!(rt; class.number(), number);
-        number = number.wrapping_add(1);
-    }
-    Ok(())
+fn class_numbers(rt: HostRuntime) {
+    let numbers = ORDER.map(|class| class.number());
+    assert_eq!(rt; numbers, [0, 1, 2, 3, 4, 5]);
 }

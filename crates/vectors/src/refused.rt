@@ -4,10 +4,10 @@
 // A row holds the number, the offset and the bytes; `*` stands for the 32 bytes 00 01 .. 1f. The numbers: 40 cut short, 41 tag, 42 length byte,
 // 43 INTEGER, 44 OCTET STRING, 45 left over, 46 role or clearance. The offset is that of the tag of the element at fault, the end of the region
 // in which an element is missing, or the first byte left over.
-use crate::kinds::Kind;
-use crate::rows::{Row, Table, between, every, hex};
-use certificate::{Ianda, Id, Privilege};
-use clearance::{Class, Clearance, Compartments};
+use crate::rows::{Row, every, hex, numbers};
+use certificate::{Certificate, Ianda, Id, Privilege};
+use clearance::{Class, Compartments};
+use std::alloc::Global;
 use std::process::Abort;
 use std::test::*;
 
@@ -275,63 +275,62 @@ const FLIPS: &str = "\
 34 = 40 33, 40 33, 40 33, 40 33, 40 33, 44 33, 40 33, 42 33
 ";
 
-// The number and the offset that a refusal tells, or zeros where the bytes are read.
-fn told<K: Kind>(bytes: &[u8]) -> (u32, usize) {
-    match K::open(bytes) {
-        Ok(_) => (0, 0),
-        Err(e) => e.told(),
-    }
+// The number and the offset that a refusal tells; none where the bytes are read.
+fn told<K: Certificate>(bytes: &[u8]) -> Option<(u32, usize)> {
+    K::read(bytes).err().map(<(u32, usize)>::from)
 }
 
-// The number and the offset that stand next in a row.
-fn expected(row: &mut Row) -> (u32, usize) {
-    let number = row.number();
-    (number, row.number() as usize)
-}
-
-// The bytes that a kind refuses.
-struct Refused<K> {
-    kind: K,
-}
-
-impl<K: Kind> Table for Refused<K> {
-    fn row(rt: &impl Abort, text: &str) -> Result<(), Fail> {
-        let mut row = Row::new(text);
-        let expected = expected(&mut row);
-        assert_eq!(rt; told::<K>(row.bytes().slice()), expected, "{text}");
-        Ok(())
-    }
+// Whether the bytes of a row are refused as it says.
+fn refused<K: Certificate>(rt: &(impl Abort + AllocGlobal), text: &str) -> Result<(), Fail> {
+    let row = Row::read(rt.alloc(), text)?;
+    let [number, at]: [u32; 2] = row.numbers.as_slice().try_into()?;
+    assert_eq!(rt;
+        told::<K>(&row.bytes),
+        Some((number, at as usize)),
+        "{text}"
+    );
+    Ok(())
 }
 
 // Every proper prefix is cut short, and the whole is not refused.
-fn prefixes<K: Kind>(rt: &impl Abort, text: &str) -> Result<(), Fail> {
-    let bytes = hex(text);
-    let whole = bytes.slice();
-    for n in 0..whole.len() {
-        assert_eq!(rt; told::<K>(between(whole, 0, n)), (40, 0), "{n}");
+fn prefixes<K: Certificate>(rt: &(impl Abort + AllocGlobal), text: &str) -> Result<(), Fail> {
+    let whole = hex(rt.alloc(), text)?;
+    // A count by hand, since what is counted is the length of each prefix: no iterator has the prefixes as its items.
+    for len in 0..whole.len() {
+        assert_eq!(rt; told::<K>(&whole[..len]), Some((40, 0)), "{len}");
     }
-    assert_eq!(rt; told::<K>(whole), (0, 0));
+    assert_eq!(rt; told::<K>(&whole), None);
     Ok(())
 }
 
 #[test]
 fn ids(rt: HostRuntime) -> Result<(), Fail> {
-    every::<Refused<Id>>(&rt, IDS, 101)
+    every(&rt, IDS, 101, |text| refused::<Id>(&rt, text))
 }
 
 #[test]
 fn iandas(rt: HostRuntime) -> Result<(), Fail> {
-    every::<Refused<Ianda>>(&rt, IANDAS, 34)
+    every(&rt, IANDAS, 34, |text| refused::<Ianda>(&rt, text))
 }
 
 #[test]
 fn classes(rt: HostRuntime) -> Result<(), Fail> {
-    every::<Refused<Privilege<Class>>>(&rt, CLASSES, 49)
+    every(
+        &rt,
+        CLASSES,
+        49,
+        |text| refused::<Privilege<Class>>(&rt, text),
+    )
 }
 
 #[test]
 fn compartments(rt: HostRuntime) -> Result<(), Fail> {
-    every::<Refused<Privilege<Compartments>>>(&rt, COMPARTMENTS, 16)
+    every(
+        &rt,
+        COMPARTMENTS,
+        16,
+        |text| refused::<Privilege<Compartments>>(&rt, text),
+    )
 }
 
 #[test]
@@ -342,24 +341,35 @@ fn truncated(rt: HostRuntime) -> Result<(), Fail> {
     prefixes::<Privilege<Compartments>>(&rt, PRIVILEGE)
 }
 
-// The certificates that differ from PRIVILEGE in one bit.
-struct Flipped;
+// The bits of a byte, from the lowest to the highest.
+const BITS: [u8; 8] = [0x01, 0x02, 0x04, 0x08, 0x10, 0x20, 0x40, 0x80];
 
-impl Table for Flipped {
-    fn row(rt: &impl Abort, text: &str) -> Result<(), Fail> {
-        let whole = hex(PRIVILEGE);
-        let mut row = Row::new(text);
-        let at = row.number() as usize;
-        for bit in 0..8 {
-            let expected = expected(&mut row);
-            let bytes = whole.flipped(at, bit);
-            assert_eq!(rt; told::<Privilege<Class>>(bytes.slice()), expected, "{text}");
-        }
-        Ok(())
+// PRIVILEGE with one bit of the byte at this offset flipped.
+fn flipped(alloc: Global, at: usize, bit: u8) -> Result<Vec<u8>, Fail> {
+    let mut bytes = hex(alloc, PRIVILEGE)?;
+    let byte = bytes.get_mut(at).ok_or(("no such byte", at))?;
+    *byte ^= bit;
+    Ok(bytes)
+}
+
+// Whether the certificates that differ from PRIVILEGE in one bit of a byte are read or refused as a row says.
+fn flips_of(rt: &(impl Abort + AllocGlobal), text: &str) -> Result<(), Fail> {
+    let numbers = numbers(rt.alloc(), text)?;
+    let (at, answers) = numbers.split_first().ok_or(("no offset", text))?;
+    let (answers, _) = answers.as_chunks::<2>();
+    assert_eq!(rt; answers.len(), BITS.len(), "{text}");
+    for (bit, answer) in BITS.iter().zip(answers) {
+        let expected = match *answer {
+            [0, 0] => None,
+            [number, offset] => Some((number, offset as usize)),
+        };
+        let bytes = flipped(rt.alloc(), *at as usize, *bit)?;
+        assert_eq!(rt; told::<Privilege<Class>>(&bytes), expected, "{text}");
     }
+    Ok(())
 }
 
 #[test]
 fn flips(rt: HostRuntime) -> Result<(), Fail> {
-    every::<Flipped>(&rt, FLIPS, 35)
+    every(&rt, FLIPS, 35, |text| flips_of(&rt, text))
 }

@@ -1,17 +1,18 @@
 // The words for a mark.
-ghost use Rattle.std.specs.Prelude.{◌≡◌};
+ghost use Rattle.std.specs.Prelude.{Some};
 ghost use Rattle.account.specs.Texts.{verdict_text};
 
 use crate::verdict::Verdict;
+use std::fmt;
 
-impl Verdict {
-    pub(crate) fn name(self) -> &'static [u8]
-        ensures { result.now ≡ verdict_text self }
-    {
-        match self {
-            Verdict::Good => b"good",
-            Verdict::Bad => b"bad",
-            Verdict::Unchecked => b"unchecked",
-        }
+impl fmt::Display for Verdict {
+    ghost output = { λ verdict. Some (verdict_text verdict) };
+
+    fn fmt<W: fmt::Write>(&self, f: &mut fmt::Formatter<W>) -> fmt::Result {
+        f.write_str(match self {
+            Verdict::Good => "good",
+            Verdict::Bad => "bad",
+            Verdict::Unchecked => "unchecked",
+        })
     }
 }

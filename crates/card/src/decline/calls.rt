@@ -1,15 +1,17 @@
-// The numbers of the declines.
+// What the declines become, and what becomes one.
 ghost use Rattle.std.specs.Prelude.{◌≡◌};
 ghost use Rattle.card.specs.Declines.{slot_number, card_number};
+ghost use Rattle.card.specs.declared.decline.CardDecline.TheVariants.{PartTooLong};
 
 use super::{CardDecline, SlotDecline};
+use fixed::TooLong;
 
-impl SlotDecline {
-    // The number by which it is told.
-    pub fn number(self) -> u32
-        ensures { result ≡ slot_number self }
-    {
-        match self {
+// The number by which it is told.
+impl From<SlotDecline> for u32 {
+    ghost from_gives = { λ decline number. number ≡ slot_number decline };
+
+    fn from(decline: SlotDecline) -> Self {
+        match decline {
             SlotDecline::NoCard => 20,
             SlotDecline::ShortBuffer => 21,
             SlotDecline::NotWritable => 22,
@@ -18,13 +20,22 @@ impl SlotDecline {
     }
 }
 
-impl CardDecline {
-    // The number by which it is told.
-    pub fn number(self) -> u32
-        ensures { result ≡ card_number self }
-    {
-        match self {
+// The number by which it is told.
+impl From<CardDecline> for u32 {
+    ghost from_gives = { λ decline number. number ≡ card_number decline };
+
+    fn from(decline: CardDecline) -> Self {
+        match decline {
             CardDecline::PartTooLong => 25,
         }
+    }
+}
+
+// Bytes that are too many for a part.
+impl From<TooLong> for CardDecline {
+    ghost from_gives = { λ _ decline. decline ≡ PartTooLong };
+
+    fn from(_: TooLong) -> Self {
+        CardDecline::PartTooLong
     }
 }

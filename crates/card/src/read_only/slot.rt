@@ -7,7 +7,7 @@ ghost use Rattle.card.specs.Layers.{fits_stays};
 use super::ReadOnly;
 use crate::decline::SlotDecline;
 use crate::part::Part;
-use crate::sequence::is_sequence;
+use crate::sequence::sequence_of;
 use crate::slot::Slot;
 
 impl<S: Slot> Slot for ReadOnly<S> {
@@ -29,13 +29,8 @@ impl<S: Slot> Slot for ReadOnly<S> {
         ensures after { read_only (S.Slot.card self.new.below) ≡ written (read_only (S.Slot.card self.old.below)) bytes.now }
         ensures still { self.new ≡ self.old }
     {
-        if self.number().is_none() {
-            return Err(SlotDecline::NoCard);
-        }
-        if is_sequence(bytes) {
-            Err(SlotDecline::NotWritable)
-        } else {
-            Err(SlotDecline::NotSequence)
-        }
+        self.number().ok_or(SlotDecline::NoCard)?;
+        sequence_of(bytes)?;
+        Err(SlotDecline::NotWritable)
     }
 }

@@ -1,20 +1,19 @@
 // Making a card and reading its record.
 ghost use Rattle.std.specs.Prelude.{◌≡◌, length, OnErr};
-ghost use Rattle.card.specs.Cards.{part_of, blank_card, put_code, put_in};
+ghost use Rattle.card.specs.Cards.{CardFits, part_of, blank_card, put_code, put_in, with_part};
 ghost use Rattle.card.specs.Declines.{making_code};
-ghost use Rattle.card.specs.Records.{card_in};
 
 use super::CardRecord;
 use crate::decline::CardDecline;
 use crate::part::Part;
-use crate::part_bytes::PartBytes;
+use fixed::FixedBytes;
 
 impl CardRecord {
     // A card with four empty parts.
     pub fn new(number: u32, writable: bool) -> Self
-        ensures { card_in result ≡ blank_card number writable }
+        ensures { result ≡ blank_card number writable }
     {
-        let empty = PartBytes::of(&[]);
+        let empty = FixedBytes::new();
         CardRecord {
             number,
             id: empty,
@@ -28,44 +27,48 @@ impl CardRecord {
     // Replaces a part, whether the card is writable or not.
     pub fn put(&mut self, part: Part, bytes: &[u8]) -> Result<(), CardDecline>
         ensures answer { making_code result ≡ put_code (length bytes.now) }
-        ensures after { card_in self.new ≡ put_in (card_in self.old) part bytes.now }
+        ensures after { self.new ≡ put_in self.old part bytes.now }
         ensures declined { OnErr result (self.new ≡ self.old) }
     {
-        if bytes.len() > 128 {
-            return Err(CardDecline::PartTooLong);
-        }
-        let taken = PartBytes::of(bytes);
-        match part {
-            Part::Id => self.id = taken,
-            Part::Privilege => self.privilege = taken,
-            Part::Ianda => self.ianda = taken,
-            Part::Authorisation => self.authorisation = taken,
-        }
+        self.set_part(part, FixedBytes::try_from(bytes)?);
         Ok(())
+    }
+
+    // Replaces a part by bytes that have room in it. `part` names the fields again, since no loan for writing comes of its `&self`.
+    pub(crate) fn set_part(&mut self, part: Part, bytes: FixedBytes<128>)
+        ensures after { self.new ≡ with_part self.old part bytes }
+        ensures fits { CardFits self.new }
+    {
+        match part {
+            Part::Id => self.id = bytes,
+            Part::Privilege => self.privilege = bytes,
+            Part::Ianda => self.ianda = bytes,
+            Part::Authorisation => self.authorisation = bytes,
+        }
     }
 
     // The bytes of a part.
     pub fn part(&self, part: Part) -> &[u8]
-        ensures { result.now ≡ part_of (card_in self.now) part }
+        ensures { result.now ≡ part_of self.now part }
     {
         match part {
-            Part::Id => self.id.bytes(),
-            Part::Privilege => self.privilege.bytes(),
-            Part::Ianda => self.ianda.bytes(),
-            Part::Authorisation => self.authorisation.bytes(),
+            Part::Id => self.id.as_slice(),
+            Part::Privilege => self.privilege.as_slice(),
+            Part::Ianda => self.ianda.as_slice(),
+            Part::Authorisation => self.authorisation.as_slice(),
         }
     }
 
     // The number of the card.
     pub fn number(&self) -> u32
-        ensures { result ≡ (card_in self.now).number }
+        ensures { result ≡ self.now.number }
     {
         self.number
     }
 
     // Whether its authorisation can be written.
     pub fn writable(&self) -> bool
-        ensures { result ≡ (card_in self.now).writable }
+        ensures { result ≡ self.now.writable }
     {
         self.writable
     }

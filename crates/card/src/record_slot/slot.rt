@@ -1,56 +1,37 @@
 // The record as a slot.
-ghost use Rattle.card.specs.Records.{held_card};
-ghost use Rattle.std.proofs.Common.{rules};
-
 use super::RecordSlot;
-use crate::bytes::put_first;
 use crate::decline::SlotDecline;
 use crate::part::Part;
-use crate::part_bytes::PartBytes;
-use crate::sequence::is_sequence;
+use crate::record::CardRecord;
+use crate::sequence::sequence_of;
 use crate::slot::Slot;
 
 impl Slot for RecordSlot {
-    ghost card = { λ s. held_card s.card };
+    ghost card = { λ s. s.card };
 
-    ghost fits = { Prim.search rules };
+    ghost fits = { λ s. s.fits };
 
     fn number(&self) -> Option<u32> {
-        match &self.card {
-            Some(card) => Some(card.number),
-            None => None,
-        }
+        self.card.as_ref().map(CardRecord::number)
     }
 
     fn read(&self, part: Part, buffer: &mut [u8]) -> Result<usize, SlotDecline> {
-        match &self.card {
-            None => Err(SlotDecline::NoCard),
-            Some(card) => {
-                let bytes = card.part(part);
-                if bytes.len() > buffer.len() {
-                    return Err(SlotDecline::ShortBuffer);
-                }
-                put_first(buffer, bytes);
-                Ok(bytes.len())
-            }
+        let card = self.card.as_ref().ok_or(SlotDecline::NoCard)?;
+        let bytes = card.part(part);
+        if bytes.len() > buffer.len() {
+            return Err(SlotDecline::ShortBuffer);
         }
+        buffer[..bytes.len()].copy_from_slice(bytes);
+        Ok(bytes.len())
     }
 
     fn write(&mut self, bytes: &[u8]) -> Result<(), SlotDecline> {
-        match self.card {
-            None => Err(SlotDecline::NoCard),
-            Some(card) => {
-                if !is_sequence(bytes) {
-                    return Err(SlotDecline::NotSequence);
-                }
-                if !card.writable {
-                    return Err(SlotDecline::NotWritable);
-                }
-                let mut next = card;
-                next.authorisation = PartBytes::of(bytes);
-                self.card = Some(next);
-                Ok(())
-            }
+        let card = self.card.as_mut().ok_or(SlotDecline::NoCard)?;
+        let authorisation = sequence_of(bytes)?;
+        if !card.writable() {
+            return Err(SlotDecline::NotWritable);
         }
+        card.set_part(Part::Authorisation, authorisation);
+        Ok(())
     }
 }

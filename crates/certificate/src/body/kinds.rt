@@ -11,6 +11,7 @@ use crate::reader::Reader;
 impl Body for Id {
     ghost fields_at = { id_at };
 
+    #[tactic(auto, unfolding(crate::specs::Placed::followed, crate::specs::Fields::id_at))]
     fn fields(r: &mut Reader) -> Result<Self, Refusal> {
         let header = header(r)?;
         let subject = r.number()?;
@@ -21,6 +22,7 @@ impl Body for Id {
 impl Body for Ianda {
     ghost fields_at = { ianda_at };
 
+    #[tactic(auto, unfolding(crate::specs::Placed::followed, crate::specs::Fields::ianda_at))]
     fn fields(r: &mut Reader) -> Result<Self, Refusal> {
         let header = header(r)?;
         let base = base(r)?;
@@ -36,6 +38,7 @@ impl Body for Ianda {
 impl Body for Numbers {
     ghost fields_at = { numbers_at };
 
+    #[tactic(auto, unfolding(crate::specs::Placed::followed, crate::specs::Fields::numbers_at))]
     fn fields(r: &mut Reader) -> Result<Self, Refusal> {
         let header = header(r)?;
         let base = base(r)?;

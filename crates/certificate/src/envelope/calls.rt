@@ -1,42 +1,37 @@
 // Opening an envelope, and closing it.
-ghost use Rattle.std.specs.Prelude.{◌≡◌, IfOk};
+ghost use Rattle.std.specs.Prelude.{◌≡◌};
 ghost use Rattle.certificate.specs.Certificates.{closed};
-ghost use Rattle.certificate.specs.Envelopes.{Opens, Within, Short, region};
+ghost use Rattle.certificate.specs.Envelopes.{Opens};
 
-use crate::bytes::front;
 use crate::envelope::Envelope;
 use crate::fault::Refusal;
 use crate::reader::Reader;
-use crate::region::Region;
 
 // The two headers.
+#[tactic(auto, using(crate::proofs::States::sequence_room, crate::proofs::States::sequence_front), unfolding(crate::specs::Placed::followed, crate::specs::Certificates::opened))]
 pub(crate) fn open(bytes: &[u8]) -> Result<Envelope<'_>, Refusal>
-    ensures opens { Opens bytes.now result }
-    ensures short { IfOk result Within }
+    ensures { Opens bytes.now result }
 {
-    let mut whole = Reader::new(bytes);
-    let contents = whole.sequence()?;
-    let mut outer = Reader::inside(Region {
-        bytes: contents,
-        at: 2,
-    });
-    let body = outer.sequence()?;
+    let mut after = Reader::new(bytes);
+    let mut rest = after.sequence()?;
+    let contents = rest.left();
+    let body = rest.sequence()?;
+    let end = body.left().len() + 2;
     Ok(Envelope {
-        message: front(contents, body.len() + 2),
-        body: Region { bytes: body, at: 4 },
-        rest: outer.left(),
-        after: whole.left(),
+        message: &contents[..end],
+        body,
+        rest,
+        after,
     })
 }
 
 // The mark, and nothing after it or after the whole.
-pub(crate) fn close(rest: Region, after: Region) -> Result<[u8; 32], Refusal>
-    requires { Short rest × Short after }
-    ensures { result ≡ closed (region rest.entry) (region after.entry) }
+#[tactic(auto, unfolding(crate::specs::Placed::followed, crate::specs::Certificates::closed))]
+pub(crate) fn close(mut rest: Reader, after: Reader) -> Result<[u8; 32], Refusal>
+    ensures { result ≡ closed rest.entry after.entry }
 {
-    let mut tail = Reader::inside(rest);
-    let mark = tail.octets()?;
-    tail.end()?;
-    Reader::inside(after).end()?;
+    let mark = rest.octets()?;
+    rest.end()?;
+    after.end()?;
     Ok(mark)
 }

@@ -42,25 +42,14 @@ impl Clearance for Class {
     }
 
     fn number(self) -> u32 {
-        match self {
-            Class::Unmarked => 0,
-            Class::Unclassified => 1,
-            Class::Restricted => 2,
-            Class::Confidential => 3,
-            Class::Secret => 4,
-            Class::TopSecret => 5,
-        }
+        self as u32
     }
 
     fn covers(self, other: Self) -> bool {
-        other.number() <= self.number()
+        other <= self
     }
 
     fn meet(self, other: Self) -> Self {
-        if self.number() <= other.number() {
-            self
-        } else {
-            other
-        }
+        self.min(other)
     }
 }

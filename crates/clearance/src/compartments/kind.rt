@@ -31,22 +31,18 @@ impl Clearance for Compartments {
     ghost greatest = { compartments_greatest };
 
     fn of(number: u32) -> Option<Self> {
-        match Class::of(number / 65536) {
-            Some(class) => Some(Compartments {
-                class,
-                bits: (number % 65536) as u16,
-            }),
-            None => None,
-        }
+        Some(Compartments {
+            class: Class::of(number / 65536)?,
+            bits: (number % 65536) as u16,
+        })
     }
 
     fn number(self) -> u32 {
-        self.class.number() * 65536 + self.bits as u32
+        self.class.number() * 65536 + u32::from(self.bits)
     }
 
     fn covers(self, other: Self) -> bool {
-        let bits = self.bits & other.bits == other.bits;
-        self.class.covers(other.class) & bits
+        self.class.covers(other.class) && self.bits & other.bits == other.bits
     }
 
     fn meet(self, other: Self) -> Self {

@@ -2,31 +2,30 @@
 ghost use Rattle.std.specs.Prelude.{◌≡◌};
 ghost use Rattle.std.specs.Option.{option_map};
 ghost use Rattle.command.specs.Commands.{said, line_of, command_named, is_remark, clearance_command, seal_command, card_command, part_command, id_command, grant_command, ianda_command, show_command};
-ghost use Rattle.command.specs.Reading.{words_left};
 
 use crate::command::Command;
-use crate::keys::calls::are_keys;
-use crate::words::Words;
-use crate::words::calls::same;
+use crate::command::options::{Scheme, Verb};
+use crate::keys::are_keys;
+use crate::words::{FromWord, Words};
 use card::Part;
 use certificate::{Ianda, Id};
 
 // clearance class | compartments
 fn clearance<'a>(words: &mut Words<'a>) -> Option<Command<'a>>
-    ensures { option_map said result ≡ clearance_command (words_left words.old) }
+    ensures { option_map said result ≡ clearance_command words.old }
 {
-    let kind = words.kind()?;
+    let kind = words.read()?;
     words.end()?;
     Some(Command::Clearance(kind))
 }
 
 // seal hmac NAME:KEYHEX ...
 fn seal<'a>(words: &mut Words<'a>) -> Option<Command<'a>>
-    ensures { option_map said result ≡ seal_command (words_left words.old) }
+    ensures { option_map said result ≡ seal_command words.old }
 {
-    words.hmac()?;
-    let text = words.left;
-    words.word()?;
+    let Scheme::Hmac = words.read()?;
+    let text = words.text();
+    words.next()?;
     if !are_keys(text) {
         return None;
     }
@@ -35,11 +34,11 @@ fn seal<'a>(words: &mut Words<'a>) -> Option<Command<'a>>
 
 // card LABEL NUMBER writable | fixed
 fn card<'a>(words: &mut Words<'a>) -> Option<Command<'a>>
-    ensures { option_map said result ≡ card_command (words_left words.old) }
+    ensures { option_map said result ≡ card_command words.old }
 {
     let label = words.label()?;
-    let number = words.number()?;
-    let writable = words.writable()?;
+    let number = words.read()?;
+    let writable = words.read()?;
     words.end()?;
     Some(Command::Card {
         label,
@@ -50,10 +49,10 @@ fn card<'a>(words: &mut Words<'a>) -> Option<Command<'a>>
 
 // part LABEL K HEX
 fn part<'a>(words: &mut Words<'a>) -> Option<Command<'a>>
-    ensures { option_map said result ≡ part_command (words_left words.old) }
+    ensures { option_map said result ≡ part_command words.old }
 {
     let label = words.label()?;
-    let place = words.place()?;
+    let place = words.read()?;
     let hex = words.hex()?;
     words.end()?;
     Some(Command::Part { label, place, hex })
@@ -61,11 +60,11 @@ fn part<'a>(words: &mut Words<'a>) -> Option<Command<'a>>
 
 // id LABEL ISSUER SERIAL FIRST LAST SUBJECT
 fn id<'a>(words: &mut Words<'a>) -> Option<Command<'a>>
-    ensures { option_map said result ≡ id_command (words_left words.old) }
+    ensures { option_map said result ≡ id_command words.old }
 {
     let label = words.label()?;
     let header = words.header()?;
-    let subject = words.number()?;
+    let subject = words.read()?;
     words.end()?;
     Some(Command::Id {
         label,
@@ -75,7 +74,7 @@ fn id<'a>(words: &mut Words<'a>) -> Option<Command<'a>>
 
 // privilege LABEL, or authorisation LABEL, and the fields of a grant
 fn grant<'a>(words: &mut Words<'a>, place: Part) -> Option<Command<'a>>
-    ensures { option_map said result ≡ grant_command place (words_left words.old) }
+    ensures { option_map said result ≡ grant_command place words.old }
 {
     let label = words.label()?;
     let fields = words.grant()?;
@@ -89,12 +88,12 @@ fn grant<'a>(words: &mut Words<'a>, place: Part) -> Option<Command<'a>>
 
 // ianda LABEL ISSUER SERIAL FIRST LAST BASEISSUER BASESERIAL CARD TEMPLATEHEX
 fn ianda<'a>(words: &mut Words<'a>) -> Option<Command<'a>>
-    ensures { option_map said result ≡ ianda_command (words_left words.old) }
+    ensures { option_map said result ≡ ianda_command words.old }
 {
     let label = words.label()?;
     let header = words.header()?;
     let base = words.base()?;
-    let template = words.bytes32()?;
+    let template = words.read()?;
     words.end()?;
     Some(Command::Ianda {
         label,
@@ -108,7 +107,7 @@ fn ianda<'a>(words: &mut Words<'a>) -> Option<Command<'a>>
 
 // show LABEL
 fn show<'a>(words: &mut Words<'a>) -> Option<Command<'a>>
-    ensures { option_map said result ≡ show_command (words_left words.old) }
+    ensures { option_map said result ≡ show_command words.old }
 {
     let label = words.label()?;
     words.end()?;
@@ -117,28 +116,18 @@ fn show<'a>(words: &mut Words<'a>) -> Option<Command<'a>>
 
 // The words after the first, by that one.
 fn by_name<'a>(name: &[u8], words: &mut Words<'a>) -> Option<Command<'a>>
-    ensures { option_map said result ≡ command_named name.now (words_left words.old) }
+    ensures { option_map said result ≡ command_named name.now words.old }
 {
-    if same(name, b"clearance") {
-        clearance(words)
-    } else if same(name, b"seal") {
-        seal(words)
-    } else if same(name, b"card") {
-        card(words)
-    } else if same(name, b"part") {
-        part(words)
-    } else if same(name, b"id") {
-        id(words)
-    } else if same(name, b"privilege") {
-        grant(words, Part::Privilege)
-    } else if same(name, b"ianda") {
-        ianda(words)
-    } else if same(name, b"authorisation") {
-        grant(words, Part::Authorisation)
-    } else if same(name, b"show") {
-        show(words)
-    } else {
-        None
+    match Verb::from_word(name)? {
+        Verb::Clearance => clearance(words),
+        Verb::Seal => seal(words),
+        Verb::Card => card(words),
+        Verb::Part => part(words),
+        Verb::Id => id(words),
+        Verb::Privilege => grant(words, Part::Privilege),
+        Verb::Ianda => ianda(words),
+        Verb::Authorisation => grant(words, Part::Authorisation),
+        Verb::Show => show(words),
     }
 }
 
@@ -146,10 +135,7 @@ fn by_name<'a>(name: &[u8], words: &mut Words<'a>) -> Option<Command<'a>>
 fn is_remark(word: &[u8]) -> bool
     ensures { result ≡ is_remark word.now }
 {
-    match word {
-        [first, ..] => *first == b'#',
-        [] => false,
-    }
+    word.starts_with(b"#")
 }
 
 impl<'a> Command<'a> {
@@ -157,8 +143,8 @@ impl<'a> Command<'a> {
     pub fn of(line: &'a [u8]) -> Option<Command<'a>>
         ensures { option_map said result ≡ line_of line.now }
     {
-        let mut words = Words { left: line };
-        let Some(name) = words.word() else {
+        let mut words = Words::of(line);
+        let Some(name) = words.next() else {
             return Some(Command::Nothing);
         };
         if is_remark(name) {

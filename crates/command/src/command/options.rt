@@ -1,87 +1,112 @@
 // Words that choose.
-ghost use Rattle.std.specs.Prelude.{◌≡◌};
-ghost use Rattle.command.specs.Commands.{kind_of, writable_of, place_of, hmac_of};
-ghost use Rattle.command.specs.Reading.{Reads, words_left, word_by};
+ghost use Rattle.std.specs.Prelude.{◌≡◌, map};
+ghost use Rattle.command.specs.Commands.{chosen, kind_of, writable_of, place_of, scheme_of, verb_of};
 
 use crate::command::Kind;
-use crate::number::decimal;
-use crate::words::Words;
-use crate::words::calls::same;
+use crate::words::FromWord;
 use card::Part;
 
-fn kind_of(word: &[u8]) -> Option<Kind>
-    ensures { result ≡ kind_of word.now }
+// How a seal makes marks; there is one way.
+#[derive(Clone, Copy)]
+pub(crate) enum Scheme {
+    Hmac,
+}
+
+// What a line asks for.
+#[derive(Clone, Copy)]
+pub(crate) enum Verb {
+    Clearance,
+    Seal,
+    Card,
+    Part,
+    Id,
+    Privilege,
+    Ianda,
+    Authorisation,
+    Show,
+}
+
+// What the first row with this name says.
+fn chosen<T: Copy>(name: &[u8], rows: &[(&[u8], T)]) -> Option<T>
+    ensures { result ≡ chosen name.now (map (λ row. (row.0.now, row.1)) rows.now) }
 {
-    if same(word, b"class") {
-        Some(Kind::Class)
-    } else if same(word, b"compartments") {
-        Some(Kind::Compartments)
-    } else {
-        None
+    // A loop: what `find` gives over rows of a type parameter stays open in the proof.
+    for (word, value) in rows {
+        if name == *word {
+            return Some(*value);
+        }
+    }
+    None
+}
+
+impl FromWord for Kind {
+    ghost meaning = { kind_of };
+
+    #[tactic(auto, unfolding(crate::specs::Commands::kind_of))]
+    fn from_word(word: &[u8]) -> Option<Kind> {
+        chosen(
+            word,
+            &[
+                (b"class", Kind::Class),
+                (b"compartments", Kind::Compartments),
+            ],
+        )
     }
 }
 
-fn writable_of(word: &[u8]) -> Option<bool>
-    ensures { result ≡ writable_of word.now }
-{
-    if same(word, b"writable") {
-        Some(true)
-    } else if same(word, b"fixed") {
-        Some(false)
-    } else {
-        None
+// Whether a card can be written.
+impl FromWord for bool {
+    ghost meaning = { writable_of };
+
+    #[tactic(auto, unfolding(crate::specs::Commands::writable_of))]
+    fn from_word(word: &[u8]) -> Option<bool> {
+        chosen(word, &[(b"writable", true), (b"fixed", false)])
     }
 }
 
-fn hmac_of(word: &[u8]) -> Option<()>
-    ensures { result ≡ hmac_of word.now }
-{
-    if same(word, b"hmac") { Some(()) } else { None }
-}
+impl FromWord for Scheme {
+    ghost meaning = { scheme_of };
 
-// The part of a card that has this number.
-fn place_of(word: &[u8]) -> Option<Part>
-    ensures { result ≡ place_of word.now }
-{
-    match decimal(word)? {
-        1 => Some(Part::Id),
-        2 => Some(Part::Privilege),
-        3 => Some(Part::Ianda),
-        4 => Some(Part::Authorisation),
-        _ => None,
+    #[tactic(auto, unfolding(crate::specs::Commands::scheme_of))]
+    fn from_word(word: &[u8]) -> Option<Scheme> {
+        chosen(word, &[(b"hmac", Scheme::Hmac)])
     }
 }
 
-impl<'a> Words<'a> {
-    // `class` or `compartments`.
-    pub(crate) fn kind(&mut self) -> Option<Kind>
-        ensures { Reads (λ k. k) (word_by kind_of) (words_left self.old) (words_left self.new) result }
-    {
-        let word = self.word()?;
-        kind_of(word)
-    }
+impl FromWord for Verb {
+    ghost meaning = { verb_of };
 
-    // `writable` or `fixed`.
-    pub(crate) fn writable(&mut self) -> Option<bool>
-        ensures { Reads (λ b. b) (word_by writable_of) (words_left self.old) (words_left self.new) result }
-    {
-        let word = self.word()?;
-        writable_of(word)
+    #[tactic(auto, unfolding(crate::specs::Commands::verb_of))]
+    fn from_word(word: &[u8]) -> Option<Verb> {
+        chosen(
+            word,
+            &[
+                (b"clearance", Verb::Clearance),
+                (b"seal", Verb::Seal),
+                (b"card", Verb::Card),
+                (b"part", Verb::Part),
+                (b"id", Verb::Id),
+                (b"privilege", Verb::Privilege),
+                (b"ianda", Verb::Ianda),
+                (b"authorisation", Verb::Authorisation),
+                (b"show", Verb::Show),
+            ],
+        )
     }
+}
 
-    // `hmac`.
-    pub(crate) fn hmac(&mut self) -> Option<()>
-        ensures { Reads (λ u. u) (word_by hmac_of) (words_left self.old) (words_left self.new) result }
-    {
-        let word = self.word()?;
-        hmac_of(word)
-    }
+// A part of a card, by its number, 1 to 4.
+impl FromWord for Part {
+    ghost meaning = { place_of };
 
-    // A part's number, 1 to 4.
-    pub(crate) fn place(&mut self) -> Option<Part>
-        ensures { Reads (λ p. p) (word_by place_of) (words_left self.old) (words_left self.new) result }
-    {
-        let word = self.word()?;
-        place_of(word)
+    #[tactic(auto, unfolding(crate::specs::Commands::place_of))]
+    fn from_word(word: &[u8]) -> Option<Part> {
+        match u32::from_word(word)? {
+            1 => Some(Part::Id),
+            2 => Some(Part::Privilege),
+            3 => Some(Part::Ianda),
+            4 => Some(Part::Authorisation),
+            _ => None,
+        }
     }
 }

@@ -1,26 +1,17 @@
 // Reading the words of a line.
-ghost use Rattle.std.specs.Prelude.{◌≡◌, ◌<◌, ◌≤◌, [], length, OnSome};
+ghost use Rattle.std.specs.Prelude.{◌≡◌, ◌≤◌, length, []};
 ghost use Rattle.std.specs.List.{prefix_len};
-ghost use Rattle.command.specs.Words.{blank, in_word};
-ghost use Rattle.std.specs.Str.{bytes_eq};
-ghost use Rattle.command.specs.Reading.{Reads, words_left, next_word, next_label, next_number, next_bytes32, next_hex, no_more};
+ghost use Rattle.command.specs.Reading.{Reads, word_by, next_label, next_hex, no_more};
+ghost use Rattle.command.specs.Words.{blank, in_word, words};
 
-use crate::hex::{bytes32_of, is_hex};
-use crate::number::decimal;
-use crate::words::Words;
-
-// Whether a word is this text.
-pub(crate) fn same(word: &[u8], text: &[u8]) -> bool
-    ensures { result ≡ bytes_eq word.now text.now }
-{
-    word == text
-}
+use crate::hex::is_hex;
+use crate::words::{FromWord, Words};
 
 // Whether a byte separates words.
 fn is_blank(b: u8) -> bool
     ensures { result ≡ blank b }
 {
-    (b == b' ') | (b == b'\t')
+    b == b' ' || b == b'\t'
 }
 
 // How many bytes come before the first word.
@@ -28,12 +19,7 @@ fn blanks(text: &[u8]) -> usize
     ensures count { result ≡ prefix_len blank text.now }
     ensures within { result ≤ length text.now }
 {
-    for i in 0..text.len() {
-        if !is_blank(text[i]) {
-            return i;
-        }
-    }
-    text.len()
+    text.iter().take_while(|b| is_blank(**b)).count()
 }
 
 // How many bytes the word has that the text begins with.
@@ -41,65 +27,70 @@ fn width(text: &[u8]) -> usize
     ensures count { result ≡ prefix_len in_word text.now }
     ensures within { result ≤ length text.now }
 {
-    for i in 0..text.len() {
-        if is_blank(text[i]) {
-            return i;
+    text.iter().take_while(|b| !is_blank(**b)).count()
+}
+
+impl<'a> Iterator for Words<'a> {
+    ghost use Rattle.std.specs.Iterator.{YieldsFirstRef, item_count};
+
+    type Item = &'a [u8];
+
+    ghost next_gives = { YieldsFirstRef (λ ws. ws) };
+
+    ghost remaining = { item_count (λ ws. ws) };
+
+    fn next(&mut self) -> Option<&'a [u8]> {
+        let (_, text) = self.left.split_at(blanks(self.left));
+        let (word, left) = text.split_at(width(text));
+        if word.is_empty() {
+            return None;
         }
+        self.left = left;
+        Some(word)
     }
-    text.len()
 }
 
 impl<'a> Words<'a> {
-    // The next word, if there is one.
-    pub(crate) fn word(&mut self) -> Option<&'a [u8]>
-        ensures reads { Reads (λ x. x.now) next_word (words_left self.old) (words_left self.new) result }
-        ensures shorter { OnSome result (length self.new.left.now < length self.old.left.now) }
+    // The words of a line.
+    pub(crate) fn of(line: &'a [u8]) -> Words<'a>
+        ensures { result ≡ words line.now }
     {
-        let left = self.left;
-        let start = blanks(left);
-        let text = &left[start..left.len()];
-        let n = width(text);
-        if n == 0 {
-            return None;
-        }
-        self.left = &text[n..text.len()];
-        Some(&text[0..n])
+        Words { left: line }
     }
 
-    // The next word, which is any but `-`.
-    pub(crate) fn label(&mut self) -> Option<&'a [u8]>
-        ensures { Reads (λ x. x.now) next_label (words_left self.old) (words_left self.new) result }
+    // The text of the words that are left.
+    pub(crate) fn text(&self) -> &'a [u8]
+        ensures { words result.now ≡ self.now }
     {
-        let word = self.word()?;
-        if same(word, b"-") {
+        self.left
+    }
+
+    // The next word, as what it stands for.
+    pub(crate) fn read<T: FromWord>(&mut self) -> Option<T>
+        ensures { Reads (λ x. x) (word_by T.meaning) self.old self.new result }
+    {
+        let word = self.next()?;
+        T::from_word(word)
+    }
+
+    // The next word, which is any but `-`. It and hex are parts of the line: a trait with a lifetime for these two is no shorter.
+    pub(crate) fn label(&mut self) -> Option<&'a [u8]>
+        ensures { Reads (λ x. x.now) next_label self.old self.new result }
+    {
+        let word = self.next()?;
+        if word == b"-".as_slice() {
             return None;
         }
         Some(word)
     }
 
-    // The next word, which is a number.
-    pub(crate) fn number(&mut self) -> Option<u32>
-        ensures { Reads (λ n. n) next_number (words_left self.old) (words_left self.new) result }
-    {
-        let word = self.word()?;
-        decimal(word)
-    }
-
-    // The next word, which has 64 hex digits.
-    pub(crate) fn bytes32(&mut self) -> Option<[u8; 32]>
-        ensures { Reads (λ p. p) next_bytes32 (words_left self.old) (words_left self.new) result }
-    {
-        let word = self.word()?;
-        bytes32_of(word)
-    }
-
     // The next word, which is hex; nothing for `-`.
     pub(crate) fn hex(&mut self) -> Option<&'a [u8]>
-        ensures { Reads (λ x. x.now) next_hex (words_left self.old) (words_left self.new) result }
+        ensures { Reads (λ x. x.now) next_hex self.old self.new result }
     {
-        let word = self.word()?;
-        if same(word, b"-") {
-            return Some(&word[0..0]);
+        let word = self.next()?;
+        if word == b"-".as_slice() {
+            return Some(&word[..0]);
         }
         if !is_hex(word) {
             return None;
@@ -109,9 +100,9 @@ impl<'a> Words<'a> {
 
     // That no word is left.
     pub(crate) fn end(&mut self) -> Option<()>
-        ensures { Reads (λ u. u) no_more (words_left self.old) [] result }
+        ensures { Reads (λ u. u) no_more self.old [] result }
     {
-        match self.word() {
+        match self.next() {
             Some(_) => None,
             None => Some(()),
         }

@@ -1,42 +1,34 @@
 // Making and changing cards.
-ghost use Rattle.std.specs.Prelude.{◌≡◌, IfOk};
-ghost use Rattle.script.specs.Cards.{card_view, new_card, with_part};
+ghost use Rattle.std.specs.Prelude.{◌≡◌, length, IfOk};
+ghost use Rattle.card.specs.Cards.{put_code};
+ghost use Rattle.card.specs.Declines.{making_code};
+ghost use Rattle.script.specs.Cards.{new_card, put_into};
 
-use crate::cards::Card;
-use card::Part;
+use crate::cards::LabelledCard;
+use card::{CardDecline, CardRecord, Part};
 use std::alloc::{AllocError, Global};
 
-impl Card {
+impl LabelledCard {
     // A card with four empty parts.
     pub(crate) fn new(
         heap: Global,
         label: &[u8],
         number: u32,
         writable: bool,
-    ) -> Result<Card, AllocError>
-        ensures { IfOk result (λ c. card_view c ≡ new_card label.now number writable) }
+    ) -> Result<LabelledCard, AllocError>
+        ensures { IfOk result (λ c. c ≡ new_card label.now number writable) }
     {
-        let label = Vec::from_slice(heap, label)?;
-        Ok(Card {
-            label,
-            number,
-            writable,
-            id: Vec::new(heap),
-            privilege: Vec::new(heap),
-            ianda: Vec::new(heap),
-            authorisation: Vec::new(heap),
+        Ok(LabelledCard {
+            label: Vec::from_slice(heap, label)?,
+            card: CardRecord::new(number, writable),
         })
     }
 
-    // Another part in the place of the one it had.
-    pub(crate) fn put(&mut self, place: Part, bytes: Vec<u8>)
-        ensures { card_view self.new ≡ with_part (card_view self.old) place bytes.items }
+    // Other bytes in a part, if they are not too many.
+    pub(crate) fn put(&mut self, part: Part, bytes: &[u8]) -> Result<(), CardDecline>
+        ensures answer { making_code result ≡ put_code (length bytes.now) }
+        ensures after { self.new ≡ put_into self.old part bytes.now }
     {
-        match place {
-            Part::Id => self.id = bytes,
-            Part::Privilege => self.privilege = bytes,
-            Part::Ianda => self.ianda = bytes,
-            Part::Authorisation => self.authorisation = bytes,
-        }
+        self.card.put(part, bytes)
     }
 }

@@ -1,15 +1,14 @@
 // Carrying out lines.
-ghost use Rattle.std.specs.Prelude.{◌≡◌, is_some, IfOk};
+ghost use Rattle.std.specs.Prelude.{◌≡◌, position};
 ghost use Rattle.command.specs.Words.{unhex};
-ghost use Rattle.script.specs.Cards.{card_named};
+ghost use Rattle.script.specs.Cards.{has_label};
 ghost use Rattle.script.specs.Issues.{sealed_body, grant_bytes};
-ghost use Rattle.script.specs.Sessions.{session_view, fresh, card_step, put_step, part_step, grant_put, grant_step, Shows};
+ghost use Rattle.script.specs.Sessions.{fresh, Place, card_step, put_step, part_step, grant_put, grant_step, Takes};
 
-use crate::cards::Card;
-use crate::issue::{issued, issued_grant};
+use crate::cards::LabelledCard;
+use crate::issue::{issued, judged};
 use crate::session::Session;
-use crate::table::place_of;
-use crate::view::card_text;
+use crate::stop::Stop;
 use account::Reason;
 use card::Part;
 use certificate::Certificate;
@@ -17,13 +16,10 @@ use clearance::{Class, Clearance, Compartments};
 use command::{Grant, Kind, bytes_of};
 use std::alloc::{AllocError, Global};
 
-// The most bytes that a part holds.
-const PART: usize = 128;
-
 impl Session {
     // Before the first line.
     pub(crate) fn new(heap: Global) -> Session
-        ensures { session_view result ≡ fresh }
+        ensures { result ≡ fresh }
     {
         Session {
             kind: None,
@@ -32,133 +28,93 @@ impl Session {
         }
     }
 
+    // The place of the first card of a label, if there is one.
+    fn position(&self, label: &[u8]) -> Option<usize>
+        ensures { result ≡ position (has_label label.now) self.now.cards }
+    {
+        self.cards
+            .iter()
+            .position(|card| card.label.as_slice() == label)
+    }
+
+    // The same, for a line that wants such a card.
+    pub(crate) fn place_of(&self, label: &[u8]) -> Result<usize, Reason>
+        ensures { Place self.now.cards label.now result }
+    {
+        self.position(label).ok_or(Reason::NoSuchCard)
+    }
+
     // A new card, unless its label is taken.
-    pub(crate) fn add_card(
-        &mut self,
-        label: &[u8],
-        number: u32,
-        writable: bool,
-    ) -> Result<Option<Reason>, AllocError>
-        ensures { IfOk result (λ why. (session_view self.new, why) ≡ card_step (session_view self.old) label.now number writable) }
+    pub(crate) fn add_card(&mut self, label: &[u8], number: u32, writable: bool) -> Result<(), Stop>
+        ensures { Takes (card_step self.old label.now number writable) self.new result }
     {
-        if let Some(_) = place_of(self.cards.as_slice(), label) {
-            return Ok(Some(Reason::CardNamedBefore));
+        if let Ok(_) = self.place_of(label) {
+            return Err(Stop::Refused(Reason::CardNamedBefore));
         }
-        let card = Card::new(*self.cards.allocator(), label, number, writable)?;
-        self.cards.push(card)?;
-        Ok(None)
+        let card = LabelledCard::new(*self.cards.allocator(), label, number, writable)?;
+        self.cards.push(card).map_err(AllocError::from)?;
+        Ok(())
     }
 
-    // The part goes into the card of the label.
-    fn put(&mut self, label: &[u8], place: Part, bytes: Vec<u8>) -> Option<Reason>
-        ensures { (session_view self.new, result) ≡ put_step (session_view self.old) label.now place bytes.items }
+    // The bytes go into a part of the card of the label.
+    fn put(&mut self, label: &[u8], part: Part, bytes: &[u8]) -> Result<(), Reason>
+        ensures { (self.new, result) ≡ part_step self.old label.now part bytes.now }
     {
-        match place_of(self.cards.as_slice(), label) {
-            None => Some(Reason::NoSuchCard),
-            Some(i) => {
-                self.cards[i].put(place, bytes);
-                None
-            }
-        }
-    }
-}
-
-impl Session {
-    // Whether a card has this label.
-    fn knows(&self, label: &[u8]) -> bool
-        ensures { result ≡ is_some (card_named (session_view self.now).cards label.now) }
-    {
-        match place_of(self.cards.as_slice(), label) {
-            Some(_) => true,
-            None => false,
-        }
+        let i = self.place_of(label)?;
+        self.cards[i].put(part, bytes).map_err(Reason::Declined)
     }
 
     // A part given as hex digits.
-    pub(crate) fn put_hex(
-        &mut self,
-        label: &[u8],
-        place: Part,
-        hex: &[u8],
-    ) -> Result<Option<Reason>, AllocError>
-        ensures { IfOk result (λ why. (session_view self.new, why) ≡ part_step (session_view self.old) label.now place (unhex hex.now)) }
+    pub(crate) fn put_hex(&mut self, label: &[u8], part: Part, hex: &[u8]) -> Result<(), Stop>
+        ensures { Takes (part_step self.old label.now part (unhex hex.now)) self.new result }
     {
-        if !self.knows(label) {
-            return Ok(Some(Reason::NoSuchCard));
-        }
         let bytes = bytes_of(*self.cards.allocator(), hex)?;
-        if bytes.len() > PART {
-            return Ok(Some(Reason::Declined25));
-        }
-        Ok(self.put(label, place, bytes))
+        self.put(label, part, bytes.as_slice())?;
+        Ok(())
     }
 
-    // An ID or I&A certificate.
+    // A certificate of any kind.
     pub(crate) fn put_certificate<T: Certificate>(
         &mut self,
         label: &[u8],
-        place: Part,
-        issuer: u32,
+        part: Part,
         fields: T,
-    ) -> Result<Option<Reason>, AllocError>
-        ensures { IfOk result (λ why. (session_view self.new, why) ≡ put_step (session_view self.old) label.now place (sealed_body self.old.keys.items issuer (T.Certificate.field_bytes fields))) }
+    ) -> Result<(), Reason>
+        ensures { (self.new, result) ≡ put_step self.old label.now part (sealed_body self.old.keys (T.Certificate.header_of fields).identity.issuer (T.Certificate.field_bytes fields)) }
     {
-        let bytes = issued(
-            *self.cards.allocator(),
-            self.keys.as_slice(),
-            issuer,
-            fields,
-        )?;
-        Ok(self.put(label, place, bytes))
+        let bytes = issued(self.keys.as_slice(), fields);
+        self.put(label, part, bytes.as_slice())
     }
 
     // A privilege or an authorisation certificate, over a clearance kind.
     fn put_grant<C: Clearance>(
         &mut self,
         label: &[u8],
-        place: Part,
+        part: Part,
         grant: Grant,
-    ) -> Result<Option<Reason>, AllocError>
-        ensures { IfOk result (λ why. (session_view self.new, why) ≡ grant_put (session_view self.old) label.now place (grant_bytes C.Clearance.of_number C.Clearance.number_of self.old.keys.items grant)) }
+    ) -> Result<(), Reason>
+        ensures { (self.new, result) ≡ grant_put self.old label.now part (grant_bytes C.Clearance.of_number C.Clearance.number_of self.old.keys grant) }
     {
-        let issue = issued_grant::<C>(*self.cards.allocator(), self.keys.as_slice(), grant)?;
-        match issue {
-            None => Ok(Some(Reason::BadRoleOrClearance)),
-            Some(bytes) => Ok(self.put(label, place, bytes)),
-        }
+        let fields = judged::<C>(grant).ok_or(Reason::BadRoleOrClearance)?;
+        self.put_certificate(label, part, fields)
     }
 
     // The same, over the kind that was chosen.
     pub(crate) fn put_grant_by_kind(
         &mut self,
         label: &[u8],
-        place: Part,
+        part: Part,
         grant: Grant,
-    ) -> Result<Option<Reason>, AllocError>
-        ensures { IfOk result (λ why. (session_view self.new, why) ≡ grant_step (session_view self.old) label.now place grant) }
+    ) -> Result<(), Reason>
+        ensures { (self.new, result) ≡ grant_step self.old label.now part grant }
     {
-        if !self.knows(label) {
-            return Ok(Some(Reason::NoSuchCard));
-        }
+        self.place_of(label)?;
         let Some(kind) = self.kind else {
-            return Ok(Some(Reason::NoClearanceKind));
+            return Err(Reason::NoClearanceKind);
         };
         match kind {
-            Kind::Class => self.put_grant::<Class>(label, place, grant),
-            Kind::Compartments => self.put_grant::<Compartments>(label, place, grant),
-        }
-    }
-
-    // The account of the card of a label.
-    pub(crate) fn show(&self, label: &[u8], out: &mut Vec<u8>) -> Result<Option<Reason>, AllocError>
-        ensures { IfOk result (λ why. Shows (session_view self.now) label.now out.old.items out.new.items why) }
-    {
-        match place_of(self.cards.as_slice(), label) {
-            None => Ok(Some(Reason::NoSuchCard)),
-            Some(i) => {
-                card_text(out, self.kind, self.keys.as_slice(), &self.cards[i])?;
-                Ok(None)
-            }
+            Kind::Class => self.put_grant::<Class>(label, part, grant),
+            Kind::Compartments => self.put_grant::<Compartments>(label, part, grant),
         }
     }
 }

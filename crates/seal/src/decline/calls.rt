@@ -1,28 +1,38 @@
-// The numbers of declines.
+// The numbers of declines, and the want of memory as one.
 ghost use Rattle.std.specs.Prelude.{◌≡◌};
 ghost use Rattle.seal.specs.Declines.{seal_number, making_number};
+ghost use Rattle.seal.specs.declared.decline.MakingDecline.TheVariants.{NoMemory};
 
 use crate::decline::{MakingDecline, SealDecline};
+use std::alloc::AllocError;
 
-impl SealDecline {
-    pub fn number(self) -> u32
-        ensures { result ≡ seal_number self }
-    {
-        match self {
+impl From<SealDecline> for u32 {
+    ghost from_gives = { λ why n. n ≡ seal_number why };
+
+    fn from(why: SealDecline) -> u32 {
+        match why {
             SealDecline::NoneLeft => 24,
         }
     }
 }
 
-impl MakingDecline {
-    // Want of memory has no number.
-    pub fn number(self) -> Option<u32>
-        ensures { result ≡ making_number self }
-    {
-        match self {
+// Want of memory has no number.
+impl From<MakingDecline> for Option<u32> {
+    ghost from_gives = { λ why n. n ≡ making_number why };
+
+    fn from(why: MakingDecline) -> Option<u32> {
+        match why {
             MakingDecline::Count => Some(26),
             MakingDecline::NameTwice => Some(27),
             MakingDecline::NoMemory => None,
         }
+    }
+}
+
+impl From<AllocError> for MakingDecline {
+    ghost from_gives = { λ _ why. why ≡ NoMemory };
+
+    fn from(_error: AllocError) -> MakingDecline {
+        Self::NoMemory
     }
 }

@@ -5,42 +5,21 @@ ghost use Rattle.seal.specs.Hmac.{hmac_keys, is_under, keyed_by, own_mark};
 ghost use Rattle.seal.specs.Keys.{keys_code, first_key};
 ghost use Rattle.seal.specs.Seals.{Made, Makes};
 
-use crate::bytes::same;
 use crate::decline::{MakingDecline, SealDecline};
 use crate::hmac::HmacSeal;
 use crate::key::Key;
-use crate::key::calls::{are_distinct, key_named};
+use crate::key::calls::{check_keys, key_named};
 use crate::seal::Seal;
 use sha256::mark;
-
-// The most keys that a seal takes.
-const MOST_KEYS: usize = 16;
 
 // Whether a mark is the message's HMAC under a key, if there is one.
 fn is_under(key: Option<[u8; 32]>, message: &[u8], found: &[u8; 32]) -> bool
     ensures { result ≡ is_under key message.now found.now }
 {
     match key {
-        Some(key) => same(found, &mark(&key, message)),
+        Some(key) => *found == mark(&key, message),
         None => false,
     }
-}
-
-// Whether keys make a seal.
-fn judge(keys: &[Key]) -> Result<(), MakingDecline>
-    ensures { making_code result ≡ Some (keys_code keys.now) }
-{
-    let n = keys.len();
-    if n < 1 {
-        return Err(MakingDecline::Count);
-    }
-    if n > MOST_KEYS {
-        return Err(MakingDecline::Count);
-    }
-    if !are_distinct(keys) {
-        return Err(MakingDecline::NameTwice);
-    }
-    Ok(())
 }
 
 impl HmacSeal {
@@ -49,10 +28,8 @@ impl HmacSeal {
         ensures answer { making_code result ≡ Some (keys_code keys.items) }
         ensures value { IfOk result (λ s. hmac_keys s ≡ keys.items) }
     {
-        match judge(keys.as_slice()) {
-            Ok(()) => Ok(HmacSeal { keys }),
-            Err(why) => Err(why),
-        }
+        check_keys(keys.as_slice())?;
+        Ok(HmacSeal { keys })
     }
 
     // The seal's own key.

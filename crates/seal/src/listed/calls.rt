@@ -3,11 +3,9 @@ ghost use Rattle.std.specs.Prelude.{vec_capacity};
 ghost use Rattle.seal.specs.Listed.{ListedMark, NewListed, listed_pairs, listed_by};
 ghost use Rattle.seal.specs.Seals.{Makes};
 
-use crate::bytes::same;
 use crate::decline::{MakingDecline, SealDecline};
 use crate::listed::ListedSeal;
 use crate::pair::Pair;
-use crate::pair::calls::is_listed;
 use crate::seal::Seal;
 use sha256::digest;
 
@@ -23,10 +21,8 @@ impl ListedSeal {
         if n > MOST_PAIRS {
             return Err(MakingDecline::Count);
         }
-        match pairs.reserve(MOST_PAIRS - n) {
-            Ok(()) => Ok(ListedSeal { name, pairs }),
-            Err(_) => Err(MakingDecline::NoMemory),
-        }
+        pairs.reserve(MOST_PAIRS - n)?;
+        Ok(ListedSeal { name, pairs })
     }
 }
 
@@ -38,7 +34,11 @@ impl Seal for ListedSeal {
     }
 
     fn check(&self, issuer: u32, message: &[u8], mark: &[u8; 32]) -> bool {
-        same(mark, &digest(message)) & is_listed(self.pairs.as_slice(), issuer, mark)
+        let pair = Pair {
+            issuer,
+            digest: *mark,
+        };
+        *mark == digest(message) && self.pairs.contains(&pair)
     }
 
     // The mark is the message's digest, and the pair of it and the own name stands at the end of the list.

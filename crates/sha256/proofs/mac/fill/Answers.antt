@@ -1,8 +1,6 @@
-use Rattle.std.proofs.Common.{◌++◌, length, drop, replicate, ap, ◌∙◌, zero-add}
+use Rattle.std.proofs.Common.{◌++◌, length, ap}
 use Rattle.std.proofs.lemmas.List.{drop-replicate}
-use Rattle.sha256.specs.Mac.{zero_filled}
 use Rattle.sha256.proofs.mac.fill.Goals as goal
 
 pub returns : goal.returns
-unfolding zero_filled
-returns c = c.put.ensures ∙ ap (λ k. c.args.key.now ++ k) (ap (λ n. drop n (replicate 64 0)) (zero-add (length c.args.key.now)) ∙ drop-replicate (length c.args.key.now) 64 0)
+returns c = rw c.copy_from_slice.ensures.after (ap (λ k. c.args.key.now ++ k) (drop-replicate (length c.args.key.now) 64 0))

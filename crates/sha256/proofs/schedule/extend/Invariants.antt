@@ -3,4 +3,4 @@ use Rattle.sha256.specs.Hash.{extended}
 use Rattle.sha256.proofs.schedule.extend.Given as goal
 
 abbrev pub invariant-loop-t : goal.invariant-loop-t
-invariant-loop-t l = (take (l.t + 16) l.w ≡ extended l.t (take 16 l.initial.w)) × (length l.w ≡ 64)
+invariant-loop-t l = (take (l.t + 16) l.w ≡ extended l.t l.fn.words) × (length l.w ≡ 64)

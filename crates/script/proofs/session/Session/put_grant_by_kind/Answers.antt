@@ -1,28 +1,30 @@
-use Rattle.std.proofs.Common.{Some, sym, ap, ◌∙◌}
-use Rattle.script.specs.Sessions.{session_view, grant_step, grant_by}
-use Rattle.script.proofs.Steps.{on_none, on_some}
+use Rattle.std.proofs.Common.{◌≡◌, ℕ, List, [], false, Some, Option, sym, ap, ◌∙◌}
+use Rattle.card.specs.declared.part.Part.{Part}
+use Rattle.command.specs.declared.command.Grant.{Grant}
+use Rattle.command.specs.declared.command.Kind.{Kind}
+use Rattle.script.specs.Cards.{new_card, card_named}
+use Rattle.script.specs.Labels.{Labelled}
+use Rattle.script.specs.Sessions.{grant_by, grant_step}
+use Rattle.script.specs.State.{State}
 use Rattle.script.proofs.session.Session.put_grant_by_kind.Goals as goal
 
-pub returns-then-not-knows : goal.returns-then-not-knows
-unfolding grant_step
-returns-then-not-knows c = on_none _ _ _ c.if-not-knows.ensures
+-- where there is a card of the label, the kind decides
+by_kind : (s : State) (label : List ℕ) (part : Part) (g : Grant) (c : Labelled) (kind : Option Kind) → card_named s.cards label ≡ Some c → s.kind ≡ kind
+    → grant_by s label part g kind ≡ grant_step s label part g
+by_kind s label part g c kind e f = rw (e, f)
 
 pub returns-in_default : goal.returns-in_default
-unfolding grant_step grant_by
 returns-in_default c =
-    let s = session_view c.args.self.now in
-    ap (grant_by s c.args.label.now c.args.place c.args.grant) (sym c.in_default.is) ∙ on_some s _ _ c.if-not-knows.ensures
+    by_kind c.args.self.now c.args.label.now c.args.part c.args.grant _ _ (c.in_ok-place_of.ensures.1 (new_card [] 0 false)) (ap (λ (s : State). s.kind) (sym c.self.view_is) ∙ c.in_default.is)
 
 pub returns-in-Class : goal.returns-in-Class
-unfolding grant_step grant_by
 returns-in-Class c =
-    let s = session_view c.args.self.now in
-    let e = ap (grant_by s c.args.label.now c.args.place c.args.grant) (sym (c.in-Some.is ∙ ap Some c.in-Class.is)) ∙ on_some s _ _ c.if-not-knows.ensures in
-    rw (sym e) c.put_grant.ensures
+    c.put_grant.ensures
+    ∙ by_kind c.args.self.now c.args.label.now c.args.part c.args.grant _ _ (c.in_ok-place_of.ensures.1 (new_card [] 0 false))
+    (ap (λ (s : State). s.kind) (sym c.self.view_is) ∙ c.in-Some.is ∙ ap Some c.in-Class.is)
 
 pub returns-in-Compartments : goal.returns-in-Compartments
-unfolding grant_step grant_by
 returns-in-Compartments c =
-    let s = session_view c.args.self.now in
-    let e = ap (grant_by s c.args.label.now c.args.place c.args.grant) (sym (c.in-Some.is ∙ ap Some c.in-Compartments.is)) ∙ on_some s _ _ c.if-not-knows.ensures in
-    rw (sym e) c.put_grant-in-Compartments.ensures
+    c.put_grant-in-Compartments.ensures
+    ∙ by_kind c.args.self.now c.args.label.now c.args.part c.args.grant _ _ (c.in_ok-place_of.ensures.1 (new_card [] 0 false))
+    (ap (λ (s : State). s.kind) (sym c.self.view_is) ∙ c.in-Some.is ∙ ap Some c.in-Compartments.is)

@@ -1,0 +1,87 @@
+// How what a part says prints.
+ghost use Rattle.std.specs.Prelude.{Some};
+ghost use Rattle.account.specs.Texts.{place_text, header_text, base_text, rights_text, hex_text};
+
+use card::Part;
+use certificate::{Base, Header, Identity};
+use role::Role;
+use std::fmt;
+
+// A part's number and its name.
+#[derive(Clone, Copy)]
+pub(crate) struct Title(pub Part);
+
+impl fmt::Display for Title {
+    ghost output = { λ title. Some (place_text title.0) };
+
+    fn fmt<W: fmt::Write>(&self, f: &mut fmt::Formatter<W>) -> fmt::Result {
+        f.write_str(match self.0 {
+            Part::Id => "part 1 id:",
+            Part::Privilege => "part 2 privilege:",
+            Part::Ianda => "part 3 ianda:",
+            Part::Authorisation => "part 4 authorisation:",
+        })
+    }
+}
+
+// What every certificate begins with.
+#[derive(Clone, Copy)]
+pub(crate) struct Heading(pub Header);
+
+impl fmt::Display for Heading {
+    ghost output = { λ heading. Some (header_text heading.0) };
+
+    #[tactic(auto, unfolding(crate::specs::Texts::header_text))]
+    fn fmt<W: fmt::Write>(&self, f: &mut fmt::Formatter<W>) -> fmt::Result {
+        let Identity { issuer, serial } = self.0.identity;
+        let (first, last) = (self.0.first, self.0.last);
+        write!(
+            f,
+            " issuer {issuer} serial {serial} first {first} last {last}"
+        )
+    }
+}
+
+// What a certificate rests on.
+#[derive(Clone, Copy)]
+pub(crate) struct Basis(pub Base);
+
+impl fmt::Display for Basis {
+    ghost output = { λ basis. Some (base_text basis.0) };
+
+    #[tactic(auto, unfolding(crate::specs::Texts::base_text))]
+    fn fmt<W: fmt::Write>(&self, f: &mut fmt::Formatter<W>) -> fmt::Result {
+        let Identity { issuer, serial } = self.0.identity;
+        let card = self.0.card;
+        write!(f, " base-issuer {issuer} base-serial {serial} card {card}")
+    }
+}
+
+// What a privilege or an authorisation certificate grants, the clearance as its number.
+#[derive(Clone, Copy)]
+pub(crate) struct Rights(pub Role, pub u32);
+
+impl fmt::Display for Rights {
+    ghost output = { λ rights. Some (rights_text rights.0 rights.1) };
+
+    #[tactic(auto, unfolding(crate::specs::Texts::rights_text))]
+    fn fmt<W: fmt::Write>(&self, f: &mut fmt::Formatter<W>) -> fmt::Result {
+        let (role, clearance) = (u32::from(self.0), self.1);
+        write!(f, " role {role} clearance {clearance}")
+    }
+}
+
+// The template of a print, two lower-case hexadecimal digits for each byte.
+#[derive(Clone, Copy)]
+pub(crate) struct Template(pub [u8; 32]);
+
+impl fmt::Display for Template {
+    ghost output = { λ template. Some (hex_text template.0) };
+
+    fn fmt<W: fmt::Write>(&self, f: &mut fmt::Formatter<W>) -> fmt::Result {
+        for byte in &self.0 {
+            write!(f, "{byte:02x}")?;
+        }
+        Ok(())
+    }
+}

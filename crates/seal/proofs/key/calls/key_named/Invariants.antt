@@ -1,7 +1,0 @@
-use Rattle.std.proofs.Common.{◌≡◌, drop}
-use Rattle.seal.specs.Keys.{key_named}
-use Rattle.seal.proofs.key.calls.key_named.Given as goal
-
--- the keys passed have other names
-abbrev pub invariant-loop-key : goal.invariant-loop-key
-invariant-loop-key l = key_named (drop l.key-index l.keys) l.name ≡ key_named l.keys l.name

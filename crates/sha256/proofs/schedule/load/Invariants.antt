@@ -1,6 +1,0 @@
-use Rattle.std.proofs.Common.{◌≡◌, ℕ, ◌<◌, length, get_or}
-use Rattle.sha256.specs.Hash.{word}
-use Rattle.sha256.proofs.schedule.load.Given as goal
-
-abbrev pub invariant-loop-t : goal.invariant-loop-t
-invariant-loop-t l = ((k : ℕ) → k < l.t → get_or l.w k 0 ≡ word l.block k) × (length l.w ≡ 64)
