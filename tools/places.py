@@ -3,7 +3,7 @@
     python3 tools/places.py [ROOT]        every point, with the number of lines of each
     python3 tools/places.py [ROOT] 3      one point
 
-A line printed is a place to look at, not a fault. docs/DESIGN-PASS.md says what was found at each.
+A line printed is a place to look at, not a fault. docs/DESIGN-PASS.md says what was found.
 """
 import collections
 import difflib
@@ -21,7 +21,7 @@ PATTERNS = {
        r"|\b[A-Z][a-z]+\d+\b|fn (number|told)\(self\)|fn of\(number|^\s*(pub )?enum |^\s*(pub|pub\(crate\)) enum ",
     3: r"for \w+ in [^{]*\.\.|\bwhile\b",
     4: r"fn (same|is_pair|number|told|name|title|of|bytes_of|covers|meet|state|text|hex|field|start|finish|header|base)\b"
-       r"|fn \w+_(line|text)\b|\w as u(8|16|32|64)\b",
+       r"|fn \w+_(line|text)\b|[\w)] as u(8|16|32|64)\b",
     6: r"\blen: usize|^\s*(pub |pub\(crate\) )?\w+: \[\w+; \w+\],|out: &mut \[|buffer: &mut \[|: Vec<[A-Z]",
     7: r"\}? else if |match (kind|chosen|command|part|place|line) \{|\[fn\(|: fn\(",
 }

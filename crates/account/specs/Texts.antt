@@ -5,11 +5,6 @@ use Rattle.certificate.specs.declared.fields.Base.{Base}
 use Rattle.certificate.specs.declared.fields.Header.{Header}
 use Rattle.certificate.specs.declared.fields.Ianda.{Ianda as IandaFields}
 use Rattle.certificate.specs.declared.fields.Id.{Id as IdFields}
-use Rattle.certificate.specs.declared.fields.Privilege.{Privilege as PrivilegeFields}
-use Rattle.certificate.specs.declared.fault.Refusal.{Refusal}
-use Rattle.certificate.specs.Faults.{fault_number}
-use Rattle.role.specs.declared.role.Role.{Role}
-use Rattle.role.specs.Roles.{role_number}
 use Rattle.card.specs.Declines.{card_number}
 use Rattle.card.specs.declared.part.Part.{Part}
 use Rattle.card.specs.declared.part.Part.TheVariants.{Id, Privilege, Ianda, Authorisation}
@@ -44,10 +39,6 @@ header_text h = field_text (codes "issuer") h.identity.issuer ++ field_text (cod
 unfoldable pub base_text : Base → List ℕ
 base_text b = field_text (codes "base-issuer") b.identity.issuer ++ field_text (codes "base-serial") b.identity.serial ++ field_text (codes "card") b.card
 
--- what a privilege or an authorisation certificate grants: a role and a clearance, shown as their numbers
-unfoldable pub rights_text : Role → ℕ → List ℕ
-rights_text role clearance = field_text (codes "role") (role_number role) ++ field_text (codes "clearance") clearance
-
 -- how a line on a part begins
 abbrev pub place_text : Part → List ℕ
 place_text Id = codes "part 1 id:"
@@ -70,16 +61,16 @@ unfoldable pub id_line : IdFields → Verdict → List ℕ
 id_line c v = place_text Id ++ header_text c.header ++ field_text (codes "subject") c.subject ++ mark_text v
 
 -- the line of a privilege or an authorisation certificate
-unfoldable pub grant_line : Part → PrivilegeFields ℕ → Verdict → List ℕ
-grant_line p g v = place_text p ++ header_text g.header ++ base_text g.base ++ rights_text g.role g.clearance ++ mark_text v
+unfoldable pub grant_line : Part → Header → Base → ℕ → ℕ → Verdict → List ℕ
+grant_line p h b role clearance v = place_text p ++ header_text h ++ base_text b ++ field_text (codes "role") role ++ field_text (codes "clearance") clearance ++ mark_text v
 
 -- the line of an I&A certificate
 unfoldable pub ianda_line : IandaFields → Verdict → List ℕ
 ianda_line c v = place_text Ianda ++ header_text c.header ++ base_text c.base ++ codes " template " ++ hex_text c.template ++ mark_text v
 
 -- the line of a part whose bytes are no certificate: the fault's number, and where it is
-unfoldable pub fault_line : Part → Refusal → List ℕ
-fault_line p e = place_text p ++ field_text (codes "fault") (fault_number e.fault) ++ field_text (codes "at") e.at ++ newline
+unfoldable pub fault_line : Part → ℕ → ℕ → List ℕ
+fault_line p fault at = place_text p ++ field_text (codes "fault") fault ++ field_text (codes "at") at ++ newline
 
 -- the line of a part for which there is no clearance kind
 unfoldable pub no_kind_line : Part → List ℕ
@@ -89,8 +80,8 @@ no_kind_line p = place_text p ++ codes " no clearance kind" ++ newline
 abbrev pub part_text : PartLine → List ℕ
 part_text (line.Id x v) = id_line x v
 part_text (line.Ianda x v) = ianda_line x v
-part_text (line.Grant p g v) = grant_line p g v
-part_text (line.Fault p e) = fault_line p e
+part_text (line.Grant p h b role clearance v) = grant_line p h b role clearance v
+part_text (line.Fault p fault at) = fault_line p fault at
 part_text (line.NoKind p) = no_kind_line p
 
 -- whether part 4 of a card can be written

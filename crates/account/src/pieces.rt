@@ -1,10 +1,9 @@
 // How what a part says prints.
 ghost use Rattle.std.specs.Prelude.{Some};
-ghost use Rattle.account.specs.Texts.{place_text, header_text, base_text, rights_text, hex_text};
+ghost use Rattle.account.specs.Texts.{place_text, header_text, base_text, hex_text};
 
 use card::Part;
 use certificate::{Base, Header, Identity};
-use role::Role;
 use std::fmt;
 
 // A part's number and its name.
@@ -54,20 +53,6 @@ impl fmt::Display for Basis {
         let Identity { issuer, serial } = self.0.identity;
         let card = self.0.card;
         write!(f, " base-issuer {issuer} base-serial {serial} card {card}")
-    }
-}
-
-// What a privilege or an authorisation certificate grants, the clearance as its number.
-#[derive(Clone, Copy)]
-pub(crate) struct Rights(pub Role, pub u32);
-
-impl fmt::Display for Rights {
-    ghost output = { λ rights. Some (rights_text rights.0 rights.1) };
-
-    #[tactic(auto, unfolding(crate::specs::Texts::rights_text))]
-    fn fmt<W: fmt::Write>(&self, f: &mut fmt::Formatter<W>) -> fmt::Result {
-        let (role, clearance) = (u32::from(self.0), self.1);
-        write!(f, " role {role} clearance {clearance}")
     }
 }
 

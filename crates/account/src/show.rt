@@ -7,7 +7,7 @@ use crate::reason::Reason;
 use std::alloc::AllocError;
 use std::io::Write;
 
-// The line of a part.
+// The line of a part. This call and the last are one `write!` each, over other things.
 pub fn part_line(out: &mut Vec<u8>, line: PartLine) -> Result<(), AllocError>
     ensures { OnOk result (out.new.items ≡ out.old.items ++ part_text line) }
 {

@@ -1,4 +1,4 @@
-// Why a call on a card is declined.
+// Why a call on a card is declined, each case with the number by which it is told.
 
 pub mod calls;
 
@@ -6,18 +6,18 @@ pub mod calls;
 #[derive(Clone, Copy, PartialEq, Eq, Debug)]
 pub enum SlotDecline {
     // There is no card.
-    NoCard,
+    NoCard = 20,
     // The buffer is shorter than the part.
-    ShortBuffer,
+    ShortBuffer = 21,
     // The card's authorisation cannot be written.
-    NotWritable,
+    NotWritable = 22,
     // The bytes are not one SEQUENCE of at most 128 bytes that fills them.
-    NotSequence,
+    NotSequence = 23,
 }
 
 // What the making of a card declines.
 #[derive(Clone, Copy, PartialEq, Eq, Debug)]
 pub enum CardDecline {
     // More bytes than a part can have.
-    PartTooLong,
+    PartTooLong = 25,
 }

@@ -86,6 +86,7 @@ mod tests {
         let no = Err(SlotDecline::NotSequence);
         assert_eq!(rt; answers, [no, no, no, Ok(()), Ok(())]);
         reads(&rt, &slot);
+        // A `match`: over `ok_or` and `?` the proof of the test stays open.
         match slot.card() {
             Some(card) => {
                 assert_eq!(rt; card.part(Part::Authorisation).len(), 127);

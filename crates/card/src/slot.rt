@@ -15,7 +15,8 @@ pub trait Slot {
     fn number(&self) -> Option<u32>
         ensures { result ≡ number_of (card self.now) };
 
-    // Reads a part into the start of the buffer, and says how many bytes it has: with no heap, the buffer is the caller's.
+    // Reads a part into the start of the buffer, and says how many bytes it has: with no heap, the buffer is the caller's. Here and below a
+    // decline is promised by its number, as it is known by that.
     fn read(&self, part: Part, buffer: &mut [u8]) -> Result<usize, SlotDecline>
         ensures answer { code result ≡ read_code (card self.now) part (length buffer.old) }
         ensures count { IfOk result (λ n. n ≡ read_length (card self.now) part) }

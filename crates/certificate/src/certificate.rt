@@ -19,7 +19,8 @@ pub trait Certificate: Copy {
     // the bytes of the fields, as the body holds them
     ghost field_bytes: { Self → List ℕ };
 
-    // What `bytes` say as a certificate of this kind.
+    // What `bytes` say as a certificate of this kind. A default would be no shorter: it would want a bound on the trait of bodies, which is the
+    // crate's own.
     fn read(bytes: &[u8]) -> Result<Reading<'_, Self>, Refused>
         ensures { Answers (of_bytes bytes.now) result };
 

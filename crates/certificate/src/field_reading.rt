@@ -1,5 +1,5 @@
 // Reading the groups of fields.
-// (d) Crate command reads these groups from words: one trait over both sources, with its refusal and two sets of definitions, is longer.
+// The crate `command` reads these groups from words: one trait over both sources, with its refusal and two sets of definitions, is longer.
 ghost use Rattle.certificate.specs.Fields.{identity_at, header_at, base_at, placed_at};
 ghost use Rattle.certificate.specs.Placed.{Reads};
 

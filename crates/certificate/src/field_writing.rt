@@ -1,4 +1,4 @@
-// Writing the groups of fields.
+// Writing the groups of fields. Each call says what it appends and how long that is at most; the bound is another for each, so no type has it.
 ghost use Rattle.std.specs.Prelude.{◌≡◌, ◌+◌, ◌≤◌, ◌++◌, length};
 ghost use Rattle.certificate.specs.Fields.{identity_bytes, header_bytes, base_bytes};
 

@@ -7,7 +7,8 @@ ghost use Rattle.certificate.specs.Laws.{ReadsBack, OneEncoding, IdFits, IandaFi
 use clearance::Clearance;
 
 // Carries the two laws for every kind; it does nothing else, and always answers 0.
-// (d) They are no laws of the trait: an impl cites from specs/ alone, and all the lemmas of their proofs would stand there.
+// They are no laws of the trait: of its own crate an impl cites only what stands in specs/, and all the lemmas of their proofs would have to
+// stand there.
 pub fn certificates_stand<C: Clearance>() -> u8
     ensures answer { result ≡ 0 }
     ensures id_back { ReadsBack id_of id_bytes IdFits }

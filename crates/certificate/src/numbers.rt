@@ -8,6 +8,7 @@ pub(crate) struct Placed {
     pub at: usize,
 }
 
+// As a `Privilege` whose role and clearance are not judged yet; one struct over both would name what they are at every use, and hide it here.
 #[derive(Clone, Copy)]
 pub(crate) struct Numbers {
     pub header: Header,

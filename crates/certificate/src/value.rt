@@ -29,7 +29,8 @@ pub(crate) fn value(contents: &[u8]) -> Option<u32>
     Some(number)
 }
 
-// The contents of n, the highest byte first.
+// The contents of n, the highest byte first. By recursion, as they are defined: of `to_be_bytes` the zeros in front would have to be cut, all
+// but one before a high bit.
 #[tactic(auto, using(crate::proofs::Contents::content_small, crate::proofs::Contents::content_large, crate::proofs::Contents::length_quarter))]
 pub(crate) fn contents(n: u32) -> FixedBytes<5>
     ensures { result ≡ content n }

@@ -23,6 +23,7 @@ pub trait Clearance: Copy {
     fn number(self) -> u32
         ensures { result ≡ number_of self };
 
+    // Not `PartialOrd`, whose laws are about a comparison: here they are about this call, together with those of the meet.
     fn covers(self, other: Self) -> bool
         ensures { result ≡ covers self other };
 

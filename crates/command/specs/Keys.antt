@@ -1,6 +1,5 @@
 -- The keys of a seal.
-use Rattle.std.specs.Prelude.{ℕ, ◌+◌, Bool, not, List, [], ◌∷◌, ◌++◌, take, drop, is_some, Some, None, Option, ◌==◌}
-use Rattle.std.specs.Option.{option_to_list}
+use Rattle.std.specs.Prelude.{ℕ, ◌+◌, Bool, not, List, take, drop, filter_map, is_some, Some, None, Option, ◌==◌}
 use Rattle.std.specs.List.{list_all, prefix_len}
 use Rattle.seal.specs.declared.key.Key.{Key}
 use Rattle.command.specs.Words.{words, number_of, bytes32_of}
@@ -25,8 +24,7 @@ all_keys ws = list_all (λ w. is_some (key_of w)) ws
 
 -- the keys that words give
 abbrev pub keys_in : List (List ℕ) → List Key
-keys_in [] = []
-keys_in (w ∷ ws) = option_to_list (key_of w) ++ keys_in ws
+keys_in ws = filter_map key_of ws
 
 -- the keys that the words of a text give
 abbrev pub keys_of : List ℕ → List Key

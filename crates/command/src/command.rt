@@ -13,7 +13,8 @@ pub enum Kind {
     Compartments,
 }
 
-// The fields of a privilege or authorisation certificate, role and clearance as the numbers that were written: a script may write what no reader takes.
+// The fields of a privilege or authorisation certificate. Role and clearance are the numbers that were written: a script may write what no
+// reader takes. As `Privilege` of `certificate` otherwise; one struct over both would name the types of the two at every use.
 #[derive(Clone, Copy)]
 pub struct Grant {
     pub header: Header,
@@ -22,7 +23,7 @@ pub struct Grant {
     pub clearance: u32,
 }
 
-// A line that was understood.
+// A line that was understood. Contracts see it through `said`: an enum has no model, and a struct around it would come off at every `match`.
 #[derive(Clone, Copy)]
 pub enum Command<'a> {
     // A line with no word, or a remark.

@@ -6,26 +6,13 @@ ghost use Rattle.command.specs.Words.{hex_digit, is_hex, nibble, byte_of, unhex,
 use crate::words::FromWord;
 use std::alloc::{AllocError, Global};
 
-// What a hex digit of either case stands for.
-#[tactic(auto, unfolding(crate::specs::Words::hex_digit))]
-fn digit(b: u8) -> Option<u8>
-    ensures { result ≡ hex_digit b }
-{
-    match b {
-        b'0'..=b'9' => Some(b - b'0'),
-        b'A'..=b'F' => Some(10 + (b - b'A')),
-        b'a'..=b'f' => Some(10 + (b - b'a')),
-        _ => None,
-    }
-}
-
-// What a digit stands for; any other byte counts as 0.
+// What a digit of either case stands for; any other byte counts as 0.
 #[tactic(auto, unfolding(crate::specs::Words::hex_digit, crate::specs::Words::nibble))]
 fn nibble_of(b: u8) -> u8
     ensures value { result ≡ nibble b }
     ensures small { result < 16 }
 {
-    digit(b).unwrap_or(0)
+    char::from(b).to_digit(16).unwrap_or(0) as u8
 }
 
 // The byte that two digits stand for.
@@ -35,11 +22,19 @@ fn byte_of(pair: [u8; 2]) -> u8
     16 * nibble_of(pair[0]) + nibble_of(pair[1])
 }
 
+// Whether a byte is a hex digit, of either case.
+#[tactic(auto, unfolding(crate::specs::Words::hex_digit))]
+fn is_hex_digit(b: u8) -> bool
+    ensures { result ≡ is_hex b }
+{
+    b.is_ascii_hexdigit()
+}
+
 // Whether every byte is a hex digit.
 fn all_hex(word: &[u8]) -> bool
     ensures { result ≡ list_all is_hex word.now }
 {
-    word.iter().all(|b| digit(*b).is_some())
+    word.iter().all(|b| is_hex_digit(*b))
 }
 
 // Whether a word is hex: an even number of digits, at least two.

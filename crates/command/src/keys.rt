@@ -7,7 +7,7 @@ use crate::words::{FromWord, Words};
 use seal::Key;
 use std::alloc::{AllocError, Global};
 
-// Where the first colon stands.
+// Where the first colon stands: one call of the library, which a name gives its contract.
 fn colon(word: &[u8]) -> Option<usize>
     ensures { result ≡ position (λ b. b == 58) word.now }
 {
@@ -36,11 +36,5 @@ pub(crate) fn are_keys(text: &[u8]) -> bool
 pub fn keys_of(heap: Global, text: &[u8]) -> Result<Vec<Key>, AllocError>
     ensures { IfOk result (λ v. v.items ≡ keys_of text.now) }
 {
-    let mut keys = Vec::new(heap);
-    for word in Words::of(text) {
-        if let Some(key) = key_of(word) {
-            keys.push(key)?;
-        }
-    }
-    Ok(keys)
+    Words::of(text).filter_map(key_of).collect(heap)
 }

@@ -13,7 +13,7 @@ impl FromWord for u32 {
         if word.is_empty() || word.len() > 10 {
             return None;
         }
-        // A loop: in a `fold` the sum gets no bound.
+        // A loop: over a `fold`, that the sum fits at each turn stays open, and `parse` wants text first and would take a sign.
         let mut n: u64 = 0;
         for b in word {
             if !b.is_ascii_digit() {

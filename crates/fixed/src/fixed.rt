@@ -3,7 +3,7 @@ use std::marker::Model;
 
 pub mod calls;
 
-// The first `len` of the cells; the others are zeros.
+// The first `len` of the cells; the others are zeros. (The kit's `ArrayVec` cannot be copied, as the record of a card can.)
 #[derive(Clone, Copy)]
 pub struct FixedBytes<const N: usize> {
     cells: [u8; N],

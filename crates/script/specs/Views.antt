@@ -9,8 +9,9 @@ use Rattle.card.specs.declared.part.Part.TheVariants.{Id, Privilege, Ianda, Auth
 use Rattle.card.specs.Cards.{Card}
 use Rattle.certificate.specs.declared.fault.Refusal.{Refusal}
 use Rattle.certificate.specs.declared.fields.Header.{Header}
-use Rattle.certificate.specs.declared.fields.Privilege.{Privilege as PrivilegeFields}
 use Rattle.certificate.specs.Certificates.{Sealed, id_of, ianda_of, privilege_of}
+use Rattle.certificate.specs.Faults.{fault_number}
+use Rattle.role.specs.Roles.{role_number}
 use Rattle.clearance.specs.Classes.{class_of, class_number}
 use Rattle.clearance.specs.Compartments.{compartments_of, compartments_number}
 use Rattle.command.specs.declared.command.Kind.{Kind}
@@ -19,14 +20,10 @@ use Rattle.seal.specs.declared.key.Key.{Key}
 use Rattle.script.specs.Labels.{Labelled}
 use Rattle.script.specs.Marks.{verdict_of}
 
--- the fields with the clearance as its number
-abbrev pub numbered : {C : Type 0} → (C → ℕ) → PrivilegeFields C → PrivilegeFields ℕ
-numbered number_of x = record { header = x.header; base = x.base; role = x.role; clearance = number_of x.clearance }
-
 -- what a part says that was read as some kind of certificate: the kind's line, with what the keys make of the mark; or its fault
 abbrev pub told : {T : Type 0} → (Part → T → Verdict → PartLine) → (T → Header) → List Key → Part → Result (Sealed T) Refusal → PartLine
 told line_of header_of ks part (Ok x) = line_of part x.fields (verdict_of ks (header_of x.fields).identity.issuer x.message x.mark)
-told line_of header_of ks part (Err e) = line.Fault part e
+told line_of header_of ks part (Err e) = line.Fault part (fault_number e.fault) e.at
 
 -- as an ID certificate
 abbrev pub id_told : List Key → Part → List ℕ → PartLine
@@ -38,7 +35,7 @@ ianda_told ks part bytes = told (λ _ x v. line.Ianda x v) (λ x. x.header) ks p
 
 -- as a privilege or an authorisation certificate, over a clearance kind
 abbrev pub grant_told : {C : Type 0} → (ℕ → Option C) → (C → ℕ) → List Key → Part → List ℕ → PartLine
-grant_told of_number number_of ks part bytes = told (λ p x v. line.Grant p (numbered number_of x) v) (λ x. x.header) ks part (privilege_of of_number bytes)
+grant_told of_number number_of ks part bytes = told (λ p x v. line.Grant p x.header x.base (role_number x.role) (number_of x.clearance) v) (λ x. x.header) ks part (privilege_of of_number bytes)
 
 -- the same over the kind that the script has chosen, if it has
 abbrev pub kind_told : Option Kind → List Key → Part → List ℕ → PartLine

@@ -18,7 +18,8 @@ pub(crate) fn issued<T: Certificate>(keys: &[Key], fields: T) -> FixedBytes<128>
     fields.write(mark)
 }
 
-// The fields of a privilege or an authorisation certificate, where role and clearance have a meaning.
+// The fields of a privilege or an authorisation certificate, where role and clearance have a meaning. (`judge` of `certificate` says where a
+// number stands that has none.)
 pub(crate) fn judged<C: Clearance>(grant: Grant) -> Option<Privilege<C>>
     ensures { result ≡ judged C.Clearance.of_number grant }
 {

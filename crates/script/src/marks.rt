@@ -6,7 +6,8 @@ use account::Verdict;
 use seal::{Key, check_keys, key_named};
 use sha256::mark;
 
-// The mark of a message under the key of its issuer; zeros where there is none.
+// The mark of a message under the key of its issuer; zeros where there is none. The keys are a slice and no type of their own, since they may
+// make no seal.
 pub(crate) fn mark_by(keys: &[Key], issuer: u32, message: &[u8]) -> [u8; 32]
     ensures { result ≡ mark_by keys.now issuer message.now }
 {

@@ -6,7 +6,7 @@ ghost use Rattle.script.specs.Replays.{is_newline, replayed};
 use crate::session::Session;
 use std::alloc::{AllocError, Global};
 
-// Where the first newline stands.
+// Where the first newline stands: one call of the library, which a name gives its contract.
 fn newline(text: &[u8]) -> Option<usize>
     ensures { result ≡ position is_newline text.now }
 {
@@ -32,6 +32,7 @@ pub fn replay_all(heap: Global, text: &[u8]) -> Result<Vec<u8>, AllocError>
     let mut out = Vec::new(heap);
     let mut rest = text;
     let mut n = 0;
+    // By what is left: `split` has one piece more than there are lines, and each piece of `split_inclusive` has its newline still on it.
     while !rest.is_empty() {
         let (line, after) = first_line(rest);
         n += 1;

@@ -8,7 +8,8 @@ pub(crate) mod calls;
 pub(crate) mod lines;
 pub(crate) mod view;
 
-// The clearance kind, if one was chosen; the keys of the latest seal, none before the first; and the cards, in the order of their making.
+// The clearance kind, if one was chosen; the keys of the latest seal, none before the first; and the cards, in the order of their making: a
+// list and no map, since the definition is about the first card of a label, and a map would want another beside it.
 #[derive(Drop)]
 pub(crate) struct Session {
     pub(crate) kind: Option<Kind>,

@@ -2,14 +2,14 @@
 
 pub mod calls;
 
-// Why a seal made no mark.
+// Why a seal made no mark, with the number by which it is told.
 #[derive(Clone, Copy, PartialEq, Eq, Debug)]
 pub enum SealDecline {
     // It has made all the marks that it can make.
-    NoneLeft,
+    NoneLeft = 24,
 }
 
-// Why no seal was made.
+// Why no seal was made. One case has no number, so that none stands here.
 #[derive(Clone, Copy, PartialEq, Eq, Debug)]
 pub enum MakingDecline {
     // Too few or too many keys, or too many pairs.

@@ -32,31 +32,21 @@ mod tests {
 
     // As many keys, of the names 0, 1, 2 and so on.
     fn keys(heap: Global, n: u32) -> Result<Vec<Key>, AllocError> {
-        let mut keys = Vec::new(heap);
-        for name in 0..n {
-            keys.push(key(name, 7))?;
-        }
-        Ok(keys)
+        (0..n).map(|name| key(name, 7)).collect(heap)
     }
 
     // As many pairs.
     fn pairs(heap: Global, n: usize) -> Result<Vec<Pair>, AllocError> {
-        let mut pairs = Vec::new(heap);
-        for _ in 0..n {
-            pairs.push(Pair {
-                issuer: 3,
-                digest: [0; 32],
-            })?;
-        }
-        Ok(pairs)
+        let pair = Pair {
+            issuer: 3,
+            digest: [0; 32],
+        };
+        Ok(vec![in heap; pair; n]?)
     }
 
     // The number by which no seal was made.
     fn number_of<S: Drop>(made: Result<S, MakingDecline>) -> Option<u32> {
-        match made {
-            Ok(_) => None,
-            Err(why) => why.into(),
-        }
+        made.err()?.into()
     }
 
     #[test]
@@ -78,13 +68,9 @@ mod tests {
         two.push(key(7, 7))?;
         two.push(key(3, 3))?;
         assert_eq!(rt; key_named(two.as_slice(), 3), Some([3; 32]));
-        let Ok(mut seal) = HmacSeal::new(two) else {
-            return Err(Fail::new("two keys make a seal"));
-        };
+        let mut seal = HmacSeal::new(two)?;
         assert_eq!(rt; seal.name(), 7);
-        let Ok(mark) = seal.make(b"body") else {
-            return Err(Fail::new("marks never end"));
-        };
+        let mark = seal.make(b"body")?;
         assert_eq!(rt; mark, sha256::mark(&[7; 32], b"body"));
         assert!(rt; seal.check(7, b"body", &mark));
         assert!(rt; !seal.check(7, b"bodY", &mark));
@@ -98,9 +84,7 @@ mod tests {
     fn a_list_runs_out(rt: HostRuntime) -> Result<(), Fail> {
         let heap = rt.alloc();
         assert_eq!(rt; number_of(ListedSeal::new(7, pairs(heap, 65)?)), Some(26));
-        let Ok(mut seal) = ListedSeal::new(7, pairs(heap, 62)?) else {
-            return Err(Fail::new("there is room for 64 pairs"));
-        };
+        let mut seal = ListedSeal::new(7, pairs(heap, 62)?)?;
         assert_eq!(rt; seal.name(), 7);
         let mark = sha256::digest(b"body");
         assert!(rt; !seal.check(7, b"body", &mark));

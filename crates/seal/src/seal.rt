@@ -12,7 +12,7 @@ pub trait Seal {
     fn name(&self) -> u32
         ensures { result ≡ (meaning self.now).name };
 
-    // Whether the triple is good.
+    // Whether the triple is good. Its three parts come from different places, so that a struct would be made only to be taken apart.
     fn check(&self, issuer: u32, message: &[u8], mark: &[u8; 32]) -> bool
         ensures { result ≡ (meaning self.now).good issuer message.now mark.now };
 

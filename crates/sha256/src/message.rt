@@ -34,7 +34,8 @@ fn tail_blocks(n: usize) -> usize
     if n < 56 { 1 } else { 2 }
 }
 
-// What is left of a message after its whole blocks, with the padding of a message of `bits` bits.
+// What is left of a message after its whole blocks, with the padding of a message of `bits` bits: an array of two blocks, of which the second
+// is read where `tail_blocks` says that there are two.
 fn tail(rest: &[u8], bits: u64) -> [u8; 128]
     requires { length rest.now < 64 }
     ensures { take (64 * tail_blocks (length rest.now)) result ≡ rest.now ++ padding_with (length rest.now) bits }

@@ -1,7 +1,7 @@
 ghost use Rattle.std.specs.Prelude.{◌≡◌};
 ghost use Rattle.sha256.specs.Hash.{bytes_of};
 
-// The eight words of a hash value, or of the working variables.
+// The eight words of a hash value, or of the working variables, under the names that the standard gives them.
 #[derive(Clone, Copy)]
 pub(crate) struct Words {
     pub(crate) a: u32,

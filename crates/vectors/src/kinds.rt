@@ -18,7 +18,8 @@ pub(crate) trait Kind: Certificate {
     }
 }
 
-// The header of the first four numbers, and the numbers after them.
+// The header of the first four numbers, and the numbers after them: a third source of these groups, beside the words of a script and the
+// bytes of a certificate, and in two lines.
 fn header(numbers: &[u32]) -> Option<(Header, &[u32])> {
     let (&[issuer, serial, first, last], rest) = numbers.split_first_chunk::<4>()?;
     let header = Header {

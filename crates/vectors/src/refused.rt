@@ -295,7 +295,7 @@ fn refused<K: Certificate>(rt: &(impl Abort + AllocGlobal), text: &str) -> Resul
 // Every proper prefix is cut short, and the whole is not refused.
 fn prefixes<K: Certificate>(rt: &(impl Abort + AllocGlobal), text: &str) -> Result<(), Fail> {
     let whole = hex(rt.alloc(), text)?;
-    // A count by hand, since what is counted is the length of each prefix: no iterator has the prefixes as its items.
+    // By a count, since it is the length of each prefix that is counted.
     for len in 0..whole.len() {
         assert_eq!(rt; told::<K>(&whole[..len]), Some((40, 0)), "{len}");
     }

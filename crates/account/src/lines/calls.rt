@@ -3,9 +3,8 @@ ghost use Rattle.std.specs.Prelude.{Some};
 ghost use Rattle.account.specs.Texts.{part_text};
 
 use crate::lines::PartLine;
-use crate::pieces::{Basis, Heading, Rights, Template, Title};
+use crate::pieces::{Basis, Heading, Template, Title};
 use card::Part;
-use certificate::Refusal;
 use std::fmt;
 
 impl fmt::Display for PartLine {
@@ -29,16 +28,22 @@ impl fmt::Display for PartLine {
                 Basis(ianda.base),
                 Template(ianda.template)
             ),
-            PartLine::Grant(part, grant, verdict) => writeln!(
+            PartLine::Grant {
+                part,
+                header,
+                base,
+                role,
+                clearance,
+                verdict,
+            } => writeln!(
                 f,
-                "{}{}{}{} mark {verdict}",
+                "{}{}{} role {role} clearance {clearance} mark {verdict}",
                 Title(part),
-                Heading(grant.header),
-                Basis(grant.base),
-                Rights(grant.role, grant.clearance)
+                Heading(header),
+                Basis(base)
             ),
-            PartLine::Fault(part, Refusal { fault, at }) => {
-                writeln!(f, "{} fault {} at {at}", Title(part), u32::from(fault))
+            PartLine::Fault { part, fault, at } => {
+                writeln!(f, "{} fault {fault} at {at}", Title(part))
             }
             PartLine::NoKind(part) => writeln!(f, "{} no clearance kind", Title(part)),
         }

@@ -11,12 +11,7 @@ impl From<SlotDecline> for u32 {
     ghost from_gives = { λ decline number. number ≡ slot_number decline };
 
     fn from(decline: SlotDecline) -> Self {
-        match decline {
-            SlotDecline::NoCard => 20,
-            SlotDecline::ShortBuffer => 21,
-            SlotDecline::NotWritable => 22,
-            SlotDecline::NotSequence => 23,
-        }
+        decline as u32
     }
 }
 
@@ -25,9 +20,7 @@ impl From<CardDecline> for u32 {
     ghost from_gives = { λ decline number. number ≡ card_number decline };
 
     fn from(decline: CardDecline) -> Self {
-        match decline {
-            CardDecline::PartTooLong => 25,
-        }
+        decline as u32
     }
 }
 

@@ -34,7 +34,8 @@ impl CardRecord {
         Ok(())
     }
 
-    // Replaces a part by bytes that have room in it. `part` names the fields again, since no loan for writing comes of its `&self`.
+    // Replaces a part by bytes that have room in it. `part` names the fields again, since no loan for writing comes of its `&self`;
+    // and they are fields and no array of four, as the contracts have them by name.
     pub(crate) fn set_part(&mut self, part: Part, bytes: FixedBytes<128>)
         ensures after { self.new ≡ with_part self.old part bytes }
         ensures fits { CardFits self.new }

@@ -37,6 +37,7 @@ impl<'a> Reader<'a> {
         ensures short { IfOk result (λ c. self.old.1 + 2 + length c.now < 2 ^ 63) }
     {
         let at = self.at;
+        // A `match`, and a `let` in `octets`: over `map_err` the proofs stay open.
         match element(tag, self.left) {
             Ok((contents, rest)) => {
                 self.left = rest;

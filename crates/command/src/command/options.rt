@@ -95,7 +95,7 @@ impl FromWord for Verb {
     }
 }
 
-// A part of a card, by its number, 1 to 4.
+// A part of a card, by its number, 1 to 4, which is the script's own and stands nowhere else.
 impl FromWord for Part {
     ghost meaning = { place_of };
 

@@ -22,7 +22,7 @@ fn blanks(text: &[u8]) -> usize
     text.iter().take_while(|b| is_blank(**b)).count()
 }
 
-// How many bytes the word has that the text begins with.
+// How many bytes the word has that the text begins with: the same chain with the other test, and the test alone would be no less.
 fn width(text: &[u8]) -> usize
     ensures count { result ≡ prefix_len in_word text.now }
     ensures within { result ≤ length text.now }
@@ -98,7 +98,7 @@ impl<'a> Words<'a> {
         Some(word)
     }
 
-    // That no word is left.
+    // That no word is left. The unit is all there is to answer: a line that goes on is not understood, and `?` ends its reading.
     pub(crate) fn end(&mut self) -> Option<()>
         ensures { Reads (λ u. u) no_more self.old [] result }
     {

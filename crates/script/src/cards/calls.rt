@@ -9,7 +9,7 @@ use card::{CardDecline, CardRecord, Part};
 use std::alloc::{AllocError, Global};
 
 impl LabelledCard {
-    // A card with four empty parts.
+    // A card with four empty parts; its label, number and state are the words of one line.
     pub(crate) fn new(
         heap: Global,
         label: &[u8],

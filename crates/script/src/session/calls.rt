@@ -56,7 +56,8 @@ impl Session {
         Ok(())
     }
 
-    // The bytes go into a part of the card of the label.
+    // The bytes go into a part of the card of the label. Label and part stay apart: only one command has both in its line, and a pair would be
+    // made at five calls to be taken apart here.
     fn put(&mut self, label: &[u8], part: Part, bytes: &[u8]) -> Result<(), Reason>
         ensures { (self.new, result) ≡ part_step self.old label.now part bytes.now }
     {
@@ -68,6 +69,7 @@ impl Session {
     pub(crate) fn put_hex(&mut self, label: &[u8], part: Part, hex: &[u8]) -> Result<(), Stop>
         ensures { Takes (part_step self.old label.now part (unhex hex.now)) self.new result }
     {
+        self.place_of(label)?;
         let bytes = bytes_of(*self.cards.allocator(), hex)?;
         self.put(label, part, bytes.as_slice())?;
         Ok(())
@@ -99,7 +101,7 @@ impl Session {
         self.put_certificate(label, part, fields)
     }
 
-    // The same, over the kind that was chosen.
+    // The same, over the kind that was chosen: what a script chooses becomes a type here, and for reading in `told_by_kind`.
     pub(crate) fn put_grant_by_kind(
         &mut self,
         label: &[u8],

@@ -1,14 +1,11 @@
 // Reading parts.
 ghost use Rattle.std.specs.Prelude.{◌≡◌};
-ghost use Rattle.script.specs.Views.{told, kind_told};
+ghost use Rattle.script.specs.Views.{told};
 
 use crate::marks::verdict;
 use crate::told::Told;
 use account::PartLine;
 use card::Part;
-use certificate::Privilege;
-use clearance::{Class, Compartments};
-use command::Kind;
 use seal::Key;
 
 // What a part says as a certificate of some kind.
@@ -21,17 +18,9 @@ pub(crate) fn told<T: Told>(keys: &[Key], part: Part, bytes: &[u8]) -> PartLine
             let found = verdict(keys, issuer, x.message, &x.mark);
             x.fields.line(part, found)
         }
-        Err(refusal) => PartLine::Fault(part, refusal),
-    }
-}
-
-// What a part says whose clearance is of the kind that the script has chosen.
-pub(crate) fn told_by_kind(kind: Option<Kind>, keys: &[Key], part: Part, bytes: &[u8]) -> PartLine
-    ensures { result ≡ kind_told kind keys.now part bytes.now }
-{
-    match kind {
-        None => PartLine::NoKind(part),
-        Some(Kind::Class) => told::<Privilege<Class>>(keys, part, bytes),
-        Some(Kind::Compartments) => told::<Privilege<Compartments>>(keys, part, bytes),
+        Err(refusal) => {
+            let (fault, at) = refusal.into();
+            PartLine::Fault { part, fault, at }
+        }
     }
 }

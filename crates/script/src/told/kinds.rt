@@ -1,6 +1,6 @@
 // The lines of the kinds.
 ghost use Rattle.account.specs.declared.lines.PartLine.TheVariants as line;
-ghost use Rattle.script.specs.Views.{numbered};
+ghost use Rattle.role.specs.Roles.{role_number};
 
 use crate::told::Told;
 use account::{PartLine, Verdict};
@@ -25,15 +25,16 @@ impl Told for Ianda {
 }
 
 impl<C: Clearance> Told for Privilege<C> {
-    ghost line_of = { λ p x v. line.Grant p (numbered C.Clearance.number_of x) v };
+    ghost line_of = { λ p x v. line.Grant p x.header x.base (role_number x.role) (C.Clearance.number_of x.clearance) v };
 
     fn line(self, part: Part, verdict: Verdict) -> PartLine {
-        let fields = Privilege {
+        PartLine::Grant {
+            part,
             header: self.header,
             base: self.base,
-            role: self.role,
+            role: self.role.into(),
             clearance: self.clearance.number(),
-        };
-        PartLine::Grant(part, fields, verdict)
+            verdict,
+        }
     }
 }

@@ -10,9 +10,7 @@ impl From<SealDecline> for u32 {
     ghost from_gives = { λ why n. n ≡ seal_number why };
 
     fn from(why: SealDecline) -> u32 {
-        match why {
-            SealDecline::NoneLeft => 24,
-        }
+        why as u32
     }
 }
 

@@ -16,6 +16,7 @@ use sha256::mark;
 fn is_under(key: Option<[u8; 32]>, message: &[u8], found: &[u8; 32]) -> bool
     ensures { result ≡ is_under key message.now found.now }
 {
+    // A `match`: over `is_some_and` the proof stays open.
     match key {
         Some(key) => *found == mark(&key, message),
         None => false,

@@ -31,7 +31,7 @@ fn are_distinct(keys: &[Key]) -> bool
     true
 }
 
-// Whether keys make a seal: 1 to 16 of them, no name twice.
+// Whether keys make a seal: 1 to 16 of them, no name twice. A decline is promised by its number, here and in the makings of seals.
 pub fn check_keys(keys: &[Key]) -> Result<(), MakingDecline>
     ensures { making_code result ≡ Some (keys_code keys.now) }
 {
