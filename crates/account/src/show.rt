@@ -1,4 +1,5 @@
 // The lines of an account, each put behind what `out` has gathered so far. Where memory runs out, `out` may have a part of it.
+// Each call promises what it appends: the text is another for each, so no type has it.
 ghost use Rattle.std.specs.Prelude.{◌≡◌, ◌++◌, OnOk};
 ghost use Rattle.account.specs.Texts.{part_text, card_line, refused_line};
 
@@ -7,7 +8,7 @@ use crate::reason::Reason;
 use std::alloc::AllocError;
 use std::io::Write;
 
-// The line of a part. This call and the last are one `write!` each, over other things.
+// The line of a part. This call and the last are one `write!` or `writeln!` each, over other things.
 pub fn part_line(out: &mut Vec<u8>, line: PartLine) -> Result<(), AllocError>
     ensures { OnOk result (out.new.items ≡ out.old.items ++ part_text line) }
 {

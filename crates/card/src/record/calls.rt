@@ -24,7 +24,7 @@ impl CardRecord {
         }
     }
 
-    // Replaces a part, whether the card is writable or not.
+    // Replaces a part, whether the card is writable or not. A decline is promised by its number, as it is known by that.
     pub fn put(&mut self, part: Part, bytes: &[u8]) -> Result<(), CardDecline>
         ensures answer { making_code result ≡ put_code (length bytes.now) }
         ensures after { self.new ≡ put_in self.old part bytes.now }

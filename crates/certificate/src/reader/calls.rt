@@ -37,7 +37,7 @@ impl<'a> Reader<'a> {
         ensures short { IfOk result (λ c. self.old.1 + 2 + length c.now < 2 ^ 63) }
     {
         let at = self.at;
-        // A `match`, and a `let` in `octets`: over `map_err` the proofs stay open.
+        // A `match`: over `map_err` the proof stays open.
         match element(tag, self.left) {
             Ok((contents, rest)) => {
                 self.left = rest;
@@ -67,6 +67,7 @@ impl<'a> Reader<'a> {
         let at = self.at;
         let contents = self.element(Tag::OctetString)?;
         let fault = Fault::Octets;
+        // A `let`: over `map_err` the proof stays open.
         let Ok(mark) = <[u8; 32]>::try_from(contents) else {
             return Err(Refusal { fault, at });
         };

@@ -95,7 +95,7 @@ impl FromWord for Verb {
     }
 }
 
-// A part of a card, by its number, 1 to 4, which is the script's own and stands nowhere else.
+// A part of a card, by its number, 1 to 4, as a script writes it; `account` has the numbers inside its texts, and no other crate has them.
 impl FromWord for Part {
     ghost meaning = { place_of };
 

@@ -24,7 +24,7 @@ impl LabelledCard {
         })
     }
 
-    // Other bytes in a part, if they are not too many.
+    // Other bytes in a part, if they are not too many; the decline is promised by its number, as in `CardRecord::put`.
     pub(crate) fn put(&mut self, part: Part, bytes: &[u8]) -> Result<(), CardDecline>
         ensures answer { making_code result ≡ put_code (length bytes.now) }
         ensures after { self.new ≡ put_into self.old part bytes.now }

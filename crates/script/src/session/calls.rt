@@ -57,7 +57,7 @@ impl Session {
     }
 
     // The bytes go into a part of the card of the label. Label and part stay apart: only one command has both in its line, and a pair would be
-    // made at five calls to be taken apart here.
+    // made at four calls to be taken apart here.
     fn put(&mut self, label: &[u8], part: Part, bytes: &[u8]) -> Result<(), Reason>
         ensures { (self.new, result) ≡ part_step self.old label.now part bytes.now }
     {
