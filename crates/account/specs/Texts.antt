@@ -1,6 +1,5 @@
 -- The lines of an account, as lists of bytes.
-use Rattle.std.specs.Prelude.{ℕ, ◌/◌, ◌%◌, Bool, true, false, List, [], ◌∷◌, ◌++◌, codes, decimal, flat_map}
-use Rattle.std.specs.Char.{digit_char}
+use Rattle.std.specs.Prelude.{ℕ, ◌/◌, ◌%◌, Bool, true, false, List, [], ◌∷◌, ◌++◌, codes, decimal, flat_map, slice_index}
 use Rattle.certificate.specs.declared.fields.Base.{Base}
 use Rattle.certificate.specs.declared.fields.Header.{Header}
 use Rattle.certificate.specs.declared.fields.Ianda.{Ianda as IandaFields}
@@ -19,9 +18,13 @@ use Rattle.account.specs.declared.verdict.Verdict.TheVariants.{Good, Bad, Unchec
 abbrev pub newline : List ℕ
 newline = 10 ∷ []
 
+-- a hexadecimal digit, in lower case
+abbrev pub digit_of : ℕ → ℕ
+digit_of d = slice_index (codes "0123456789abcdef") d
+
 -- a byte as two hexadecimal digits
 abbrev pub byte_text : ℕ → List ℕ
-byte_text b = digit_char (b / 16) ∷ digit_char (b % 16) ∷ []
+byte_text b = digit_of (b / 16) ∷ digit_of (b % 16) ∷ []
 
 -- two digits for each byte
 abbrev pub hex_text : List ℕ → List ℕ

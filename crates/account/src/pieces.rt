@@ -1,10 +1,11 @@
 // How what a part says prints.
-ghost use Rattle.std.specs.Prelude.{Some};
+ghost use Rattle.std.specs.Prelude.{◌≡◌, Some};
+ghost use Rattle.std.specs.Str.{IsAscii};
 ghost use Rattle.account.specs.Texts.{place_text, header_text, base_text, hex_text};
 
 use card::Part;
 use certificate::{Base, Header, Identity};
-use std::fmt;
+use std::{fmt, str};
 
 // A part's number and its name.
 #[derive(Clone, Copy)]
@@ -56,17 +57,32 @@ impl fmt::Display for Basis {
     }
 }
 
-// The template of a print, two lower-case hexadecimal digits for each byte.
+// The sixteen digits.
+const DIGITS: [u8; 16] = *b"0123456789abcdef";
+
+// Two lower-case hexadecimal digits for each byte.
+fn digits(bytes: &[u8; 32]) -> [u8; 64]
+    ensures text { result ≡ hex_text bytes.now }
+    ensures ascii { IsAscii result }
+{
+    let mut digits = [0; 64];
+    for (i, byte) in bytes.iter().enumerate() {
+        digits[2 * i] = DIGITS[usize::from(*byte / 16)];
+        digits[2 * i + 1] = DIGITS[usize::from(*byte % 16)];
+    }
+    digits
+}
+
+// The template of a print, as hexadecimal digits. They are written at once: by a `write!` of each byte a card with a print takes 1.5 times the time.
 #[derive(Clone, Copy)]
 pub(crate) struct Template(pub [u8; 32]);
 
 impl fmt::Display for Template {
     ghost output = { λ template. Some (hex_text template.0) };
 
+    #[tactic(auto, using(crate::proofs::Hex::text_of))]
     fn fmt<W: fmt::Write>(&self, f: &mut fmt::Formatter<W>) -> fmt::Result {
-        for byte in &self.0 {
-            write!(f, "{byte:02x}")?;
-        }
-        Ok(())
+        let digits = digits(&self.0);
+        f.write_str(str::from_utf8(&digits).unwrap())
     }
 }

@@ -73,6 +73,23 @@ mod tests {
         assert!(rt; card.number() == 300 && !card.writable());
     }
 
+    // A part, copied into a buffer that every part fits, as its bound of 128 bytes allows with no test of its length.
+    fn copied(card: &CardRecord, part: Part) -> ([u8; 128], u8) {
+        let mut buffer = [0; 128];
+        let bytes = card.part(part);
+        buffer[..bytes.len()].copy_from_slice(bytes);
+        (buffer, bytes.len() as u8)
+    }
+
+    #[test]
+    fn copies(rt: HostRuntime) -> Result<(), Fail> {
+        let mut card = CardRecord::new(300, false);
+        card.put(Part::Ianda, &[7; 128])?;
+        assert_eq!(rt; copied(&card, Part::Ianda), ([7; 128], 128));
+        assert_eq!(rt; copied(&card, Part::Id), ([0; 128], 0));
+        Ok(())
+    }
+
     #[test]
     fn writes(rt: HostRuntime) -> Result<(), Fail> {
         let mut slot = slot(true)?;

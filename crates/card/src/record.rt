@@ -1,9 +1,12 @@
 // A card as a record.
+ghost use Rattle.std.specs.Prelude.{◌^◌, ◌<◌, ◌≤◌, length};
+
 use fixed::FixedBytes;
-use std::marker::Model;
 
 pub mod calls;
 
+// It is seen with its fields and by no model: a model's value is any card, so that a law about every record would lose that what a record
+// holds fits.
 #[derive(Clone, Copy)]
 pub struct CardRecord {
     number: u32,
@@ -12,18 +15,6 @@ pub struct CardRecord {
     ianda: FixedBytes<128>,
     authorisation: FixedBytes<128>,
     writable: bool,
-}
-
-impl Model for CardRecord {
-    ghost use Rattle.card.specs.Cards.{Card};
-
-    ghost Value = { Card };
-
-    ghost use Rattle.card.specs.Records.{card_in, record_of, HoldsCard};
-
-    ghost view = { card_in };
-
-    ghost invariant = { HoldsCard };
-
-    ghost inverse = { record_of };
+    ghost bits: { number < 2 ^ 32 },
+    ghost within: { (length id ≤ 128) × (length privilege ≤ 128) × (length ianda ≤ 128) × (length authorisation ≤ 128) },
 }

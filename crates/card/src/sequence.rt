@@ -4,16 +4,14 @@ ghost use Rattle.card.specs.Cards.{sequence};
 ghost use Rattle.card.specs.declared.decline.SlotDecline.TheVariants.{NotSequence};
 
 use crate::decline::SlotDecline;
-use fixed::FixedBytes;
 
-// The bytes, if they are one SEQUENCE of at most 128 bytes that fills them.
-pub(crate) fn sequence_of(bytes: &[u8]) -> Result<FixedBytes<128>, SlotDecline>
-    ensures { result ≡ cond (sequence bytes.now) (Ok bytes.now) (Err NotSequence) }
+// Whether the bytes are one SEQUENCE of at most 128 bytes that fills them.
+pub(crate) fn check_sequence(bytes: &[u8]) -> Result<(), SlotDecline>
+    ensures { result ≡ cond (sequence bytes.now) (Ok tt) (Err NotSequence) }
 {
     match bytes {
-        [0x30, count, inside @ ..] if usize::from(*count) == inside.len() => {
-            FixedBytes::try_from(bytes).map_err(|_| SlotDecline::NotSequence)
-        },
+        [0x30, count, inside @ ..] if inside.len() <= 126 && usize::from(*count) == inside.len() =>
+            { Ok(()) },
         _ => Err(SlotDecline::NotSequence),
     }
 }

@@ -1,11 +1,11 @@
 -- The contents of an INTEGER: the fewest bytes of a number, and the number of such bytes.
 use Rattle.std.proofs.Common.{◌≡◌, ℕ, zero, suc, ◌+◌, ◌-◌, ◌*◌, ◌/◌, ◌%◌, ◌^◌, ◌<◌, ◌≤◌, true, false, ◌&&◌, ◌||◌, ltb, leb, List, [], ◌∷◌, ◌++◌, reverse, length, get_or, drop, Some, None, sym, refl, ap, ◌∙◌, subst, inl, inr, le_trans, mul-le-mul_right, mul_assoc, arith}
-use native.Mathlib.Nat.{pow-succ'}
+use native.Mathlib.Nat.{pow-succ', pow-le-pow_right}
 use Rattle.std.specs.Int.Digits.{number_from_digits, number_from_digits_after, AllBelowBase}
 use Rattle.std.proofs.lemmas.Int.Digits.{number_push}
 use Rattle.std.proofs.lemmas.List.{drop_all, reverse-append, reverse-reverse, length-append}
 use Rattle.std.proofs.lemmas.Bool.{cases_lt, lt-ltb, le-ltb, ltb-true, leb-true, le-leb, and_parts, and_from, or_cases, or_left, or_right, false≢true, cases_Bool, lt-leb}
-use Rattle.certificate.specs.Der.{shortest, content_by, content, value_of, acceptable}
+use Rattle.certificate.specs.Der.{shortest, content_by, content, value_of, acceptable, wrap, encode_integer}
 
 -- an induction from a list's end
 
@@ -179,6 +179,22 @@ length-content (suc k) n h =
           rw (content_large n g) (simp length-append (omega (arith, length-content k (n / 256) q)))
     ]
 
+pub too_long : (max k : ℕ) (xs : List ℕ) → max < 128 * 256 ^ k → k + 2 ≤ length xs → value_of max xs ≡ None
+unfolding value_of acceptable
+too_long max k [] m l = absurd (omega arith)
+too_long max k (x ∷ []) m l = absurd (omega arith)
+too_long max k (x ∷ y ∷ ys) m l =
+    elim (cases_Bool (shortest (x ∷ y ∷ ys))) [
+      | inr f ↦ rw f
+      | inl t ↦
+          let more : 256 ^ k ≤ 256 ^ length ys = pow-le-pow_right (omega arith) (omega arith) in
+          rw (t, lt-leb (number_from_digits 256 (x ∷ y ∷ ys)) max (omega (arith, shortest_low x y ys t)))
+    ]
+
+-- contents of more than five bytes are of no number of 32 bits
+pub value_long : (xs : List ℕ) → 5 < length xs → None ≡ value_of 4294967295 xs
+value_long xs h = sym (too_long 4294967295 4 xs (omega arith) (omega arith))
+
 pub value_good : (max n : ℕ) (xs : List ℕ) → n ≡ number_from_digits 256 xs → n ≤ max → shortest xs ≡ true → Some n ≡ value_of max xs
 unfolding value_of acceptable
 value_good max n xs e h s = rw (s, le-leb (number_from_digits 256 xs) max (omega arith)) (ap Some e)
@@ -206,9 +222,62 @@ after_more n (d ∷ ds) h = omega (arith, after_low (n * 256 + d) ds)
 pub after_all : (n i : ℕ) (xs : List ℕ) → number_from_digits_after 256 n (drop i xs) ≡ number_from_digits 256 xs → length xs ≤ i → n ≡ number_from_digits 256 xs
 after_all n i xs e h = rw (drop_all i xs h) at e
 
--- a number of 32 bits takes five bytes at most, and what is left of it without its last byte four
-pub length_number : (n : ℕ) → n ≤ 4294967295 → length (content n) ≤ 5
-length_number n h = length-content 4 n (omega arith)
+-- the bytes of a number of 32 bits, by how many they are
+pub content_two : (n : ℕ) → 128 ≤ n → n < 32768 → content n ≡ n / 256 % 256 ∷ n % 256 ∷ []
+content_two n l u =
+    let e : n / 256 ≡ n / 256 % 256 = omega arith in
+    content_large n l ∙ ap (λ xs. xs ++ (n % 256 ∷ [])) (content_small (n / 256) (omega arith)) ∙ ap (λ x. x ∷ n % 256 ∷ []) e
 
-pub length_quarter : (n : ℕ) → n < 16777216 → length (content n) ≤ 4
-length_quarter n h = length-content 3 n (omega arith)
+pub content_three : (n : ℕ) → 32768 ≤ n → n < 8388608 → content n ≡ n / 65536 % 256 ∷ n / 256 % 256 ∷ n % 256 ∷ []
+content_three n l u =
+    let e : n / 256 / 256 ≡ n / 65536 = omega arith in
+    content_large n (omega arith)
+    ∙ ap (λ xs. xs ++ (n % 256 ∷ [])) (content_two (n / 256) (omega arith) (omega arith))
+    ∙ ap (λ x. x % 256 ∷ n / 256 % 256 ∷ n % 256 ∷ []) e
+
+pub content_four : (n : ℕ) → 8388608 ≤ n → n < 2147483648 → content n ≡ n / 16777216 ∷ n / 65536 % 256 ∷ n / 256 % 256 ∷ n % 256 ∷ []
+content_four n l u =
+    let e : n / 256 / 65536 % 256 ≡ n / 16777216 = omega arith in
+    let f : n / 256 / 256 ≡ n / 65536 = omega arith in
+    content_large n (omega arith)
+    ∙ ap (λ xs. xs ++ (n % 256 ∷ [])) (content_three (n / 256) (omega arith) (omega arith))
+    ∙ ap (λ x. x ∷ n / 256 / 256 % 256 ∷ n / 256 % 256 ∷ n % 256 ∷ []) e
+    ∙ ap (λ x. n / 16777216 ∷ x % 256 ∷ n / 256 % 256 ∷ n % 256 ∷ []) f
+
+pub content_five : (n : ℕ) → 2147483648 ≤ n → n ≤ 4294967295 → content n ≡ 0 ∷ n / 16777216 ∷ n / 65536 % 256 ∷ n / 256 % 256 ∷ n % 256 ∷ []
+content_five n l u =
+    let m : ℕ = n / 16777216 in
+    let e : n / 256 / 256 / 256 ≡ m = omega arith in
+    let f : n / 256 / 256 ≡ n / 65536 = omega arith in
+    let z : m / 256 ≡ 0 = omega arith in
+    let r : m % 256 ≡ m = omega arith in
+    content_large n (omega arith)
+    ∙ ap (λ xs. xs ++ (n % 256 ∷ []))
+    (content_large (n / 256) (omega arith)
+    ∙ ap (λ xs. xs ++ (n / 256 % 256 ∷ []))
+    (content_large (n / 256 / 256) (omega arith)
+    ∙ ap (λ k. content k ++ (n / 256 / 256 % 256 ∷ [])) e
+    ∙ ap (λ k. content m ++ (k % 256 ∷ [])) f
+    ∙ ap (λ xs. xs ++ (n / 65536 % 256 ∷ []))
+    (content_large m (omega arith) ∙ ap (λ k. content k ++ (m % 256 ∷ [])) z ∙ ap (λ k. content 0 ++ (k ∷ [])) r ∙ ap (λ xs. xs ++ (m ∷ [])) (content_small 0 (omega arith)))))
+
+-- and of its INTEGER
+pub integer_one : (n : ℕ) → n < 128 → encode_integer n ≡ 2 ∷ 1 ∷ n % 256 ∷ []
+unfolding encode_integer wrap
+integer_one n u = let e : n ≡ n % 256 = omega arith in ap (wrap 2) (content_small n u) ∙ ap (λ x. 2 ∷ 1 ∷ x ∷ []) e
+
+pub integer_two : (n : ℕ) → 128 ≤ n → n < 32768 → encode_integer n ≡ 2 ∷ 2 ∷ n / 256 % 256 ∷ n % 256 ∷ []
+unfolding encode_integer wrap
+integer_two n l u = ap (wrap 2) (content_two n l u)
+
+pub integer_three : (n : ℕ) → 32768 ≤ n → n < 8388608 → encode_integer n ≡ 2 ∷ 3 ∷ n / 65536 % 256 ∷ n / 256 % 256 ∷ n % 256 ∷ []
+unfolding encode_integer wrap
+integer_three n l u = ap (wrap 2) (content_three n l u)
+
+pub integer_four : (n : ℕ) → 8388608 ≤ n → n < 2147483648 → encode_integer n ≡ 2 ∷ 4 ∷ n / 16777216 ∷ n / 65536 % 256 ∷ n / 256 % 256 ∷ n % 256 ∷ []
+unfolding encode_integer wrap
+integer_four n l u = ap (wrap 2) (content_four n l u)
+
+pub integer_five : (n : ℕ) → 2147483648 ≤ n → n ≤ 4294967295 → encode_integer n ≡ 2 ∷ 5 ∷ 0 ∷ n / 16777216 ∷ n / 65536 % 256 ∷ n / 256 % 256 ∷ n % 256 ∷ []
+unfolding encode_integer wrap
+integer_five n l u = ap (wrap 2) (content_five n l u)

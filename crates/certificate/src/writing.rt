@@ -4,7 +4,6 @@ ghost use Rattle.certificate.specs.Tags.{tag_byte};
 ghost use Rattle.certificate.specs.Der.{encode_integer, wrap};
 
 use crate::tag::Tag;
-use crate::value::contents;
 use fixed::FixedBytes;
 
 // Bytes for which there is room.
@@ -27,12 +26,24 @@ pub(crate) fn element(out: &mut FixedBytes<128>, tag: Tag, contents: &[u8])
     put(out, contents);
 }
 
-// A 32-bit INTEGER: at most seven bytes.
-#[tactic(auto, using(crate::proofs::Contents::length_number), unfolding(crate::specs::Der::encode_integer))]
+// A 32-bit INTEGER: at most seven bytes. The contents are the fewest bytes of n whose first is below 128, so that a zero stands before a
+// full word; they are put with their header at once, as bytes one by one take half as long again.
+#[tactic(auto, using(crate::proofs::Contents::integer_one, crate::proofs::Contents::integer_two, crate::proofs::Contents::integer_three, crate::proofs::Contents::integer_four, crate::proofs::Contents::integer_five))]
 pub(crate) fn number(out: &mut FixedBytes<128>, n: u32)
     requires { length out.old + 7 ≤ 128 }
     ensures bytes { out.new ≡ out.old ++ encode_integer n }
     ensures len { length out.new ≤ length out.old + 7 }
 {
-    element(out, Tag::Integer, contents(n).as_slice());
+    let tag = Tag::Integer.into();
+    let low = (n % 256) as u8;
+    let second = (n / 256 % 256) as u8;
+    let third = (n / 65536 % 256) as u8;
+    let top = (n / 16777216) as u8;
+    match n {
+        0..=0x7F => put(out, &[tag, 1, low]),
+        0x80..=0x7FFF => put(out, &[tag, 2, second, low]),
+        0x8000..=0x7F_FFFF => put(out, &[tag, 3, third, second, low]),
+        0x80_0000..=0x7FFF_FFFF => put(out, &[tag, 4, top, third, second, low]),
+        _ => put(out, &[tag, 5, 0, top, third, second, low]),
+    }
 }

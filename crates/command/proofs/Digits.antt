@@ -2,7 +2,6 @@
 use Rattle.std.proofs.Common.{◌≡◌, ℕ, zero, suc, ◌+◌, ◌-◌, ◌*◌, ◌/◌, ◌<◌, List, [], ◌∷◌, map, length, get_or, take, refl, ap, arith}
 use Rattle.std.proofs.lemmas.Int.Digits.{number_push}
 use Rattle.std.proofs.lemmas.List.{map_more}
-use Rattle.std.proofs.lemmas.Grind.{elements}
 use Rattle.std.specs.Simd.{first_chunks}
 use Rattle.command.specs.Words.{decimal_of, byte_of, unhex}
 
@@ -23,7 +22,3 @@ pairs_of (suc n) (a ∷ b ∷ xs) h = ap (λ v. byte_of (a ∷ b ∷ []) ∷ v) 
 
 pub unhex_pairs : (xs : List ℕ) → map byte_of (first_chunks 2 (length xs / 2) xs) ≡ unhex xs
 unhex_pairs xs = pairs_of (length xs / 2) xs refl
-
--- bytes that are each what a pair stands for
-pub bytes_of_pairs : (ps : List (List ℕ)) (ys : List ℕ) → length ys ≡ length ps → ((i : ℕ) → i < length ys → get_or ys i 0 ≡ byte_of (get_or ps i [])) → ys ≡ map byte_of ps
-bytes_of_pairs ps ys l h = grind (arith, elements, h)

@@ -62,7 +62,11 @@ impl FromWord for [u8; 32] {
             return None;
         }
         let (pairs, _) = word.as_chunks::<2>();
-        let pairs = pairs.first_chunk::<32>()?;
-        Some(pairs.map(byte_of))
+        let mut bytes = [0; 32];
+        // A loop: the `map` of an array holds each byte in an `Option` on the way, and a line of keys takes 1.5 times the time.
+        for (i, pair) in pairs.iter().enumerate() {
+            bytes[i] = byte_of(*pair);
+        }
+        Some(bytes)
     }
 }

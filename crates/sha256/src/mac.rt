@@ -36,7 +36,12 @@ fn block_of(key: &[u8]) -> [u8; 64]
 fn xor(block: [u8; 64], pad: u8) -> [u8; 64]
     ensures { result ≡ xored pad block }
 {
-    block.map(|byte| byte ^ pad)
+    let mut b = block;
+    // In place: the `map` of an array holds each byte in an `Option` on the way, and a mark takes a tenth more time.
+    for byte in b.iter_mut() {
+        *byte ^= pad;
+    }
+    b
 }
 
 // The digest of a message after the block combined with `pad`.

@@ -7,7 +7,7 @@ ghost use Rattle.card.specs.Layers.{fits_stays};
 use super::ReadOnly;
 use crate::decline::SlotDecline;
 use crate::part::Part;
-use crate::sequence::sequence_of;
+use crate::sequence::check_sequence;
 use crate::slot::Slot;
 
 impl<S: Slot> Slot for ReadOnly<S> {
@@ -30,7 +30,7 @@ impl<S: Slot> Slot for ReadOnly<S> {
         ensures still { self.new ≡ self.old }
     {
         self.number().ok_or(SlotDecline::NoCard)?;
-        sequence_of(bytes)?;
+        check_sequence(bytes)?;
         Err(SlotDecline::NotWritable)
     }
 }

@@ -1,15 +1,18 @@
 // The record as a slot.
+ghost use Rattle.card.specs.Records.{held_card, holds_fit};
+
 use super::RecordSlot;
 use crate::decline::SlotDecline;
 use crate::part::Part;
 use crate::record::CardRecord;
-use crate::sequence::sequence_of;
+use crate::sequence::check_sequence;
 use crate::slot::Slot;
+use fixed::FixedBytes;
 
 impl Slot for RecordSlot {
-    ghost card = { λ s. s.card };
+    ghost card = { λ s. held_card s.card };
 
-    ghost fits = { λ s. s.fits };
+    ghost fits = { λ s. holds_fit s.card };
 
     fn number(&self) -> Option<u32> {
         self.card.as_ref().map(CardRecord::number)
@@ -27,10 +30,13 @@ impl Slot for RecordSlot {
 
     fn write(&mut self, bytes: &[u8]) -> Result<(), SlotDecline> {
         let card = self.card.as_mut().ok_or(SlotDecline::NoCard)?;
-        let authorisation = sequence_of(bytes)?;
+        check_sequence(bytes)?;
         if !card.writable() {
             return Err(SlotDecline::NotWritable);
         }
+        // Filled here: as a call's answer the bytes would be copied again, and a write take twice the time.
+        let mut authorisation = FixedBytes::new();
+        authorisation.extend(bytes).unwrap();
         card.set_part(Part::Authorisation, authorisation);
         Ok(())
     }

@@ -58,8 +58,8 @@ impl Session {
 
     // The bytes go into a part of the card of the label. Label and part stay apart: only one command has both in its line, and a pair would be
     // made at four calls to be taken apart here.
-    fn put(&mut self, label: &[u8], part: Part, bytes: &[u8]) -> Result<(), Reason>
-        ensures { (self.new, result) ≡ part_step self.old label.now part bytes.now }
+    fn put(&mut self, label: &[u8], part: Part, bytes: Vec<u8>) -> Result<(), Reason>
+        ensures { (self.new, result) ≡ part_step self.old label.now part bytes.items }
     {
         let i = self.place_of(label)?;
         self.cards[i].put(part, bytes).map_err(Reason::Declined)
@@ -71,8 +71,7 @@ impl Session {
     {
         self.place_of(label)?;
         let bytes = bytes_of(*self.cards.allocator(), hex)?;
-        self.put(label, part, bytes.as_slice())?;
-        Ok(())
+        Ok(self.put(label, part, bytes)?)
     }
 
     // A certificate of any kind.
@@ -81,11 +80,12 @@ impl Session {
         label: &[u8],
         part: Part,
         fields: T,
-    ) -> Result<(), Reason>
-        ensures { (self.new, result) ≡ put_step self.old label.now part (sealed_body self.old.keys (T.Certificate.header_of fields).identity.issuer (T.Certificate.field_bytes fields)) }
+    ) -> Result<(), Stop>
+        ensures { Takes (put_step self.old label.now part (sealed_body self.old.keys (T.Certificate.header_of fields).identity.issuer (T.Certificate.field_bytes fields))) self.new result }
     {
         let bytes = issued(self.keys.as_slice(), fields);
-        self.put(label, part, bytes.as_slice())
+        let bytes = Vec::from_slice(*self.cards.allocator(), bytes.as_slice())?;
+        Ok(self.put(label, part, bytes)?)
     }
 
     // A privilege or an authorisation certificate, over a clearance kind.
@@ -94,8 +94,8 @@ impl Session {
         label: &[u8],
         part: Part,
         grant: Grant,
-    ) -> Result<(), Reason>
-        ensures { (self.new, result) ≡ grant_put self.old label.now part (grant_bytes C.Clearance.of_number C.Clearance.number_of self.old.keys grant) }
+    ) -> Result<(), Stop>
+        ensures { Takes (grant_put self.old label.now part (grant_bytes C.Clearance.of_number C.Clearance.number_of self.old.keys grant)) self.new result }
     {
         let fields = judged::<C>(grant).ok_or(Reason::BadRoleOrClearance)?;
         self.put_certificate(label, part, fields)
@@ -107,12 +107,12 @@ impl Session {
         label: &[u8],
         part: Part,
         grant: Grant,
-    ) -> Result<(), Reason>
-        ensures { (self.new, result) ≡ grant_step self.old label.now part grant }
+    ) -> Result<(), Stop>
+        ensures { Takes (grant_step self.old label.now part grant) self.new result }
     {
         self.place_of(label)?;
         let Some(kind) = self.kind else {
-            return Err(Reason::NoClearanceKind);
+            return Err(Stop::Refused(Reason::NoClearanceKind));
         };
         match kind {
             Kind::Class => self.put_grant::<Class>(label, part, grant),

@@ -32,15 +32,13 @@ impl Session {
                 writable,
             } => self.add_card(label, number, writable),
             Command::Part { label, place, hex } => self.put_hex(label, place, hex),
-            Command::Id { label, fields } => Ok(self.put_certificate(label, Part::Id, fields)?),
+            Command::Id { label, fields } => self.put_certificate(label, Part::Id, fields),
             Command::Grant {
                 label,
                 place,
                 fields,
-            } => Ok(self.put_grant_by_kind(label, place, fields)?),
-            Command::Ianda { label, fields } => {
-                Ok(self.put_certificate(label, Part::Ianda, fields)?)
-            }
+            } => self.put_grant_by_kind(label, place, fields),
+            Command::Ianda { label, fields } => self.put_certificate(label, Part::Ianda, fields),
             Command::Show { label } => self.show(label, out),
         }
     }

@@ -34,7 +34,7 @@ impl Session {
         ensures { result ≡ part_told self.now.kind self.now.keys card.now.card part }
     {
         let keys = self.keys.as_slice();
-        let bytes = card.card.part(part);
+        let bytes = card.part(part);
         match part {
             Part::Id => told::<Id>(keys, part, bytes),
             Part::Ianda => told::<Ianda>(keys, part, bytes),
@@ -48,7 +48,7 @@ impl Session {
         ensures { OnOk result (out.new.items ≡ out.old.items ++ card_text self.now.kind self.now.keys card.now) }
     {
         let label = card.label.as_slice();
-        card_line(out, label, card.card.number(), card.card.writable())?;
+        card_line(out, label, card.number, card.writable)?;
         part_line(out, self.part(card, Part::Id))?;
         part_line(out, self.part(card, Part::Privilege))?;
         part_line(out, self.part(card, Part::Ianda))?;

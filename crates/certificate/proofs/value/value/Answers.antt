@@ -1,8 +1,11 @@
 use Rattle.std.proofs.Common.{refl, drop, sym, arith}
 use Rattle.std.specs.Int.Digits.{number_from_digits}
 use Rattle.std.proofs.lemmas.List.{length-drop}
-use Rattle.certificate.proofs.Contents.{value_good, value_large, value_bad, after_more, after_all}
+use Rattle.certificate.proofs.Contents.{value_good, value_large, value_bad, value_long, after_more, after_all}
 use Rattle.certificate.proofs.value.value.Goals as goal
+
+pub returns-then-contents-gt5 : goal.returns-then-contents-gt5
+returns-then-contents-gt5 c = value_long c.args.contents.now (omega arith)
 
 pub returns-then-not-is_shortest : goal.returns-then-not-is_shortest
 returns-then-not-is_shortest c = value_bad 4294967295 c.args.contents.now (sym c.if-not-is_shortest.ensures)

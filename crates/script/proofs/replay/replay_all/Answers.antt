@@ -2,6 +2,7 @@ use Rattle.std.proofs.Common.{◌≡◌, ◌+◌, ◌<◌, ◌++◌, length, vec
 use Rattle.std.proofs.lemmas.List.{append-nil, length-drop}
 use Rattle.std.specs.List.{position_or_len}
 use Rattle.std.proofs.lemmas.Bool.Decides.{nat_tests}
+use Rattle.std.proofs.lemmas.Grind.{common_steps}
 use Rattle.script.specs.Replays.{is_newline, replayed}
 use Rattle.script.proofs.Lines.{replay_step, printed_none}
 use Rattle.script.proofs.replay.replay_all.Goals as goal
@@ -14,8 +15,8 @@ pub loop-rest-preserved : goal.loop-rest-preserved
 loop-rest-preserved c =
     let rest = c.loop-rest.rest.now in
     let some : 0 < length rest = grind (arith, nat_tests) in (
-      replay_step c.loop-rest.session c.line.new.self c.loop-rest.n (vec_items c.loop-rest.out) (vec_items c.line.new.out) rest c.first_line.result.0.now c.first_line.result.1.now _
-          some c.first_line.ensures.line c.first_line.ensures.rest c.in_ok-line.ensures.after c.in_ok-line.ensures.printed c.loop-rest.invariant.0,
+      replay_step c.loop-rest.session c.line.new.self c.loop-rest.n (vec_items c.loop-rest.out) (vec_items c.line.new.out) rest c.first_line.result.0.now _ _
+          some c.first_line.ensures.line (grind (arith, common_steps, c.first_line.ensures.rest)) c.in_ok-line.ensures.after c.in_ok-line.ensures.printed c.loop-rest.invariant.0,
       omega (arith, some, ap length c.first_line.ensures.rest, length-drop (position_or_len is_newline rest + 1) rest, c.loop-rest.invariant.1),
     )
 

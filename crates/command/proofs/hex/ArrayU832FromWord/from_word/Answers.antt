@@ -1,15 +1,17 @@
-use Rattle.std.proofs.Common.{◌≡◌, rules, arith, ap, ◌∙◌, length, []}
-use Rattle.std.proofs.lemmas.Grind.{common_steps}
-use Rattle.command.specs.Words.{bytes32_of}
-use Rattle.command.proofs.Digits.{unhex_pairs, bytes_of_pairs}
+use Rattle.std.proofs.Common.{◌≡◌, rules, arith, sym, ap, ◌∙◌, length, map}
+use Rattle.std.proofs.lemmas.List.{take_all}
+use Rattle.command.specs.Words.{byte_of, unhex, bytes32_of}
+use Rattle.command.proofs.Digits.{unhex_pairs}
 use Rattle.command.proofs.hex.ArrayU832FromWord.from_word.Goals as goal
 
 pub returns : goal.returns
 unfolding bytes32_of
 returns c =
     let n : length c.as_chunks.result.0.now ≡ 32 = omega arith in
-    let f : c.in_ok-pairs.pairs.now ≡ c.as_chunks.result.0.now = c.in_ok-pairs.ensures.cases.same ∙ grind (arith, common_steps) in
-    let e = bytes_of_pairs c.in_ok-pairs.pairs.now c.map.result (omega (arith, c.map.ensures.items.long, ap length f))
-    (λ i k. let t = c.map.ensures.items.at i [] 0 (omega (arith, c.map.ensures.items.long)) in search (rules, t))
+    let e : c.loop-i.bytes ≡ unhex c.args.word.now =
+    sym (take_all c.loop-i.i c.loop-i.bytes (omega (arith, n, c.loop-i.invariant.1)))
+    ∙ c.loop-i.invariant.0
+    ∙ ap (map byte_of) (take_all c.loop-i.i c.as_chunks.result.0.now (omega (arith, n)) ∙ c.as_chunks.ensures.front)
+    ∙ unhex_pairs c.args.word.now
     in
-    rw (e, f, c.as_chunks.ensures.front, unhex_pairs) (search rules)
+    rw e (search rules)
